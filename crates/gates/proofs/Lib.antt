@@ -1,0 +1,4 @@
+pub mod Behaviour
+pub mod Opening
+pub mod PartRows
+pub mod Works

@@ -1,0 +1,4 @@
+pub mod Bounded
+pub mod Lowest
+pub mod Marks
+pub mod States

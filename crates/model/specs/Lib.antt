@@ -1,0 +1,4 @@
+pub mod Meanings
+pub mod Sets
+pub mod States
+pub mod Tests

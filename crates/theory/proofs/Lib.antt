@@ -1,0 +1,4 @@
+pub mod Enumerations
+pub mod Evidence
+pub mod Members
+pub mod Runs

@@ -1,0 +1,4 @@
+pub mod Enumerations
+pub mod Members
+pub mod Runs
+pub mod Statements
