@@ -1,21 +1,21 @@
 -- Rows of parts. Assumes nothing.
-use mathlib.Core.Bool.{Bool, true, false, _&&_, _||_}
+use mathlib.Core.Bool.{true, false}
 use mathlib.Core.List.{List, [], _∷_, _++_}
 use mathlib.Core.Path.{_≡_, refl, sym, ap, subst, _∙_}
 use Prim.Native.Nat.{ℕ, zero, suc, _+_, _<_, _≤_}
 use native.Mathlib.Nat.{le-of-suc-le-suc, not-suc-le-zero}
 use native.Mathlib.Omega.{arith}
-use lib.ListN.{length, getD, take, set}
-use Rattle.std.proofs.shelf.Lists.{take-more, take-more-set, getD-take, length-take-le, length-append, append-assoc}
+use lib.ListN.{length, getD, take}
+use Rattle.std.proofs.shelf.Lists.{take-more, getD-take, length-take-le, length-append, append-assoc}
 use Rattle.std.proofs.shelf.Maps.{nth-getD, nth-past}
-use Rattle.std.proofs.shelf.Tests.{and-from, and-parts, or-right, or-left, or-from, or-parts}
+use Rattle.std.proofs.shelf.Tests.{or-right, or-left, or-from, or-parts}
 use Rattle.std.specs.declared.option.Option.{Option}
 use Rattle.std.specs.declared.option.Option.the-variants.{Some, None}
 use Rattle.std.specs.shelf.Maps.{nth}
 use Rattle.std.specs.Options.{Cases}
 use Rattle.gates.specs.Rows.{listed, Grown}
 use Rattle.gates.specs.declared.parts.Parts.{Parts}
-use Rattle.gates.specs.Gates.{small, all-small, uses, used}
+use Rattle.gates.specs.Gates.{uses, used}
 use Rattle.gates.specs.declared.gate.Field.{Field}
 use Rattle.gates.specs.declared.gate.Part.{Part}
 
@@ -26,12 +26,6 @@ nth-taken xs n i d h l =
 
 pub nth-beyond : {X : Type 0} (xs : List X) (n i : ℕ) → n ≤ i → n ≤ length xs → nth (take n xs) i ≡ None
 nth-beyond xs n i h l = nth-past (take n xs) i (subst (λ k. k ≤ i) (sym (length-take-le n xs l)) h)
-
-pub all-small-push : (ps : List Part) (p : Part) → all-small ps ≡ true → small p ≡ true → all-small (ps ++ (p ∷ [])) ≡ true
-all-small-push [] p h k = and-from (small p) true k refl
-all-small-push (q ∷ ps) p h k =
-    let both = and-parts (small q) (all-small ps) h in
-    and-from (small q) (all-small (ps ++ (p ∷ []))) (both .0) (all-small-push ps p (both .1) k)
 
 pub used-push : (f : Field) (n : ℕ) (ps : List Part) (p : Part) → used f ps n ≡ false → uses f p n ≡ false → used f (ps ++ (p ∷ [])) n ≡ false
 used-push f n [] p h k = or-from (uses f p n) false k refl

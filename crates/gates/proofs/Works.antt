@@ -80,8 +80,8 @@ module _ (l : Opened) (few : length (l .parts) ≤ 16) (tight : all-small (l .pa
     from-chosen c = record {
       opened = subst (λ o. told (λ q. opens-of r q (c .choice) new) false o ≡ true) (sym there) (c .opens);
       given = λ n b h.
-        let here = subst (λ o. told (λ q. controls-of q n) false o ≡ true) there h in
-        ap (told (given-to r (c .choice) n old) (pos 0)) there ∙ ap pos (cond-true (controls-of p n) (gives-of r p (c .choice) old) 0 here ∙ c .gives ∙ ap new (sym (controlled-is p n here)));
+          let here = subst (λ o. told (λ q. controls-of q n) false o ≡ true) there h in
+          ap (told (given-to r (c .choice) n old) (pos 0)) there ∙ ap pos (cond-true (controls-of p n) (gives-of r p (c .choice) old) 0 here ∙ c .gives ∙ ap new (sym (controlled-is p n here)));
     }
 
   to-parts : (r : Round) (s t : List ℕ) → yields m r s t ≡ true → All (Chosen r (value s) (value t)) (l .parts)
@@ -93,25 +93,26 @@ module _ (l : Opened) (few : length (l .parts) ≤ 16) (tight : all-small (l .pa
   from-parts r s t h all =
       yields-from m r s t h
       (λ a b.
-        let found = nth-some (l .parts) a b in
-        let c = nth-all (Chosen r (value s) (value t)) (l .parts) a (found .0) all (found .1) in
-        (c .choice, subst (λ o. c .choice < told (choices-of r) 0 o) (sym (found .1)) (c .there), takes-from m r a (c .choice) (value s) (value t) (from-chosen r (value s) (value t) a (found .0) (found .1) c)))
+      let found = nth-some (l .parts) a b in
+      let c = nth-all (Chosen r (value s) (value t)) (l .parts) a (found .0) all (found .1) in
+      (c .choice, subst (λ o. c .choice < told (choices-of r) 0 o) (sym (found .1)) (c .there), takes-from m r a (c .choice) (value s) (value t) (from-chosen r (value s) (value t) a (found .0) (found .1) c)))
 
   -- beside no fault, both kinds of round lead where the gates have worked
   yields-works : (bs : List ℕ) → l ≡ opened bs → fault-place bs ≡ None → (r : Round) (s t : List ℕ) → (yields m r s t ≡ true) ↔ ((is-state (list-outline l) t ≡ true) × All (Works r (value s) (value t)) (gates-of bs))
   yields-works bs e fine r s t =
-      let same : l .parts ≡ parts-upto bs (length bs / 5) = ap (λ (o : Opened). o .parts) (e ∙ ap (λ o. opened-at o bs) fine) in
-      ( λ h.
-        let state = yields-parts m r s t h .0 in
-        (state, all-work (value s) (value t) (bits t state) r (gates-of bs) (subst (All (Chosen r (value s) (value t))) same (to-parts r s t h)))
-      , λ h. from-parts r s t (h .0) (subst (All (Chosen r (value s) (value t))) (sym same) (all-worked (value s) (value t) (bits t (h .0)) r (gates-of bs) (h .1))))
+      let same : l .parts ≡ parts-upto bs (length bs / 5) = ap (λ (o : Opened). o .parts) (e ∙ ap (λ o. opened-at o bs) fine) in (
+        λ h.
+            let state = yields-parts m r s t h .0 in
+            (state, all-work (value s) (value t) (bits t state) r (gates-of bs) (subst (All (Chosen r (value s) (value t))) same (to-parts r s t h))),
+        λ h. from-parts r s t (h .0) (subst (All (Chosen r (value s) (value t))) (sym same) (all-worked (value s) (value t) (bits t (h .0)) r (gates-of bs) (h .1))),
+      )
 
 pub gates-work : (g : GateList) (bs : List ℕ) → reading g ≡ opened bs → Gates-work bs (meaning-of g)
 gates-work g bs e = record {
   initially = λ fine t.
-    let both = yields-works (reading g) (listed-few (g .parts)) (g .parts .small) (g .clean) bs e fine Initial nothing t in
-    (λ (h : Initial-state (meaning-of g) t). both .0 (h .yielded), λ h. record { yielded = both .1 h });
+      let both = yields-works (reading g) (listed-few (g .parts)) (g .parts .small) (g .clean) bs e fine Initial nothing t in
+      (λ (h : Initial-state (meaning-of g) t). both .0 (h .yielded), λ h. record { yielded = both .1 h });
   later = λ fine s t.
-    let both = yields-works (reading g) (listed-few (g .parts)) (g .parts .small) (g .clean) bs e fine Update s t in
-    (λ (h : Successor (meaning-of g) s t). both .0 (h .yielded), λ h. record { yielded = both .1 h });
+      let both = yields-works (reading g) (listed-few (g .parts)) (g .parts .small) (g .clean) bs e fine Update s t in
+      (λ (h : Successor (meaning-of g) s t). both .0 (h .yielded), λ h. record { yielded = both .1 h });
 }

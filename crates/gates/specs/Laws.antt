@@ -305,24 +305,24 @@ module _ (l : Opened) (few : length (l .parts) ≤ 16) (tight : all-small (l .pa
     no-top = λ n h. none-of-none (kind-in ps n) h;
     few-atoms = few;
     controls-known = λ a n h.
-      let k = asked ps a (λ p. controls-of p n) h in
-      (k .inside, ⊎-elim (known a n Out (k .part) (k .there)) (known a n Own (k .part) (k .there)) (controls-owned (k .part) n (k .holds)));
+        let k = asked ps a (λ p. controls-of p n) h in
+        (k .inside, ⊎-elim (known a n Out (k .part) (k .there)) (known a n Own (k .part) (k .there)) (controls-owned (k .part) n (k .holds)));
     reads-known = λ a n h.
-      let k = asked ps a (λ p. reads-of p n) h in
-      (k .inside, known a n Own (k .part) (k .there) (reads-uses (k .part) n (k .holds)));
+        let k = asked ps a (λ p. reads-of p n) h in
+        (k .inside, known a n Own (k .part) (k .there) (reads-uses (k .part) n (k .holds)));
     awaits-known = λ a n h.
-      let k = asked ps a (λ p. awaits-of p n) h in
-      (k .inside, known a n Input (k .part) (k .there) (awaits-uses (k .part) n (k .holds)));
+        let k = asked ps a (λ p. awaits-of p n) h in
+        (k .inside, known a n Input (k .part) (k .there) (awaits-uses (k .part) n (k .holds)));
     controls-some = λ a h.
-      let k = nth-some ps a h in
-      (target (k .0), ap (told (λ p. controls-of p (target (k .0))) false) (k .1) ∙ controls-target (k .0) (small-nth ps a (k .0) tight (k .1)));
+        let k = nth-some ps a h in
+        (target (k .0), ap (told (λ p. controls-of p (target (k .0))) false) (k .1) ∙ controls-target (k .0) (small-nth ps a (k .0) tight (k .1)));
     controls-own = λ a n h.
-      let k = asked ps a (λ p. controls-of p n) h in
-      not-external (used Out ps n) (used Own ps n) (used Input ps n) (⊎-elim (λ u. inl (used-nth Out ps a n (k .part) (k .there) u)) (λ u. inr (used-nth Own ps a n (k .part) (k .there) u)) (controls-owned (k .part) n (k .holds)));
+        let k = asked ps a (λ p. controls-of p n) h in
+        not-external (used Out ps n) (used Own ps n) (used Input ps n) (⊎-elim (λ u. inl (used-nth Out ps a n (k .part) (k .there) u)) (λ u. inr (used-nth Own ps a n (k .part) (k .there) u)) (controls-owned (k .part) n (k .holds)));
     fault-numbered = numbered (l .wrong);
     fault-empty = λ h.
-      let none = no-parts (wrong-told (l .wrong) h) in
-      (ap length none, λ n. ap (λ qs. kind-in qs n) none);
+        let none = no-parts (wrong-told (l .wrong) h) in
+        (ap length none, λ n. ap (λ qs. kind-in qs n) none);
   }
 
   module _ (a : ℕ) where
@@ -335,21 +335,21 @@ module _ (l : Opened) (few : length (l .parts) ≤ 16) (tight : all-small (l .pa
     few-choices = λ r a. by-part ps a (λ o. told (choices-of r) 0 o ≤ 8) (omega arith) (λ p e. few-choices r p);
     no-choice = λ r a h. ap (told (choices-of r) 0) (nth-past ps a h);
     absent-closed = λ r a k old new.
-      by-part ps a (λ o. told (choices-of r) 0 o ≤ k → told (λ p. opens-of r p k new) false o ≡ false) (λ h. refl) (λ p e h. absent-closed r p k new h);
+        by-part ps a (λ o. told (choices-of r) 0 o ≤ k → told (λ p. opens-of r p k new) false o ≡ false) (λ h. refl) (λ p e h. absent-closed r p k new h);
     absent-gives = λ r a k n old new.
-      by-part ps a (λ o. told (choices-of r) 0 o ≤ k → told (given-to r k n old) (pos 0) o ≡ pos 0) (λ h. refl)
-      (λ p e h. ap pos (ap (λ v. cond (controls-of p n) v 0) (absent-gives r p k old h) ∙ cond-self (controls-of p n)));
+        by-part ps a (λ o. told (choices-of r) 0 o ≤ k → told (given-to r k n old) (pos 0) o ≡ pos 0) (λ h. refl)
+        (λ p e h. ap pos (ap (λ v. cond (controls-of p n) v 0) (absent-gives r p k old h) ∙ cond-self (controls-of p n)));
     other-gives = λ r a k n old new.
-      by-part ps a (λ o. told (λ p. controls-of p n) false o ≡ false → told (given-to r k n old) (pos 0) o ≡ pos 0) (λ h. refl)
-      (λ p e h. ap pos (cond-false (controls-of p n) (gives-of r p k old) 0 h));
+        by-part ps a (λ o. told (λ p. controls-of p n) false o ≡ false → told (given-to r k n old) (pos 0) o ≡ pos 0) (λ h. refl)
+        (λ p e h. ap pos (cond-false (controls-of p n) (gives-of r p k old) 0 h));
     gives-low = λ r a k n old new hold hnew. given-low r k n old (nth ps a);
     gives-high = λ r a k n old new hold hnew. given-byte r k n old (nth ps a) hold;
     opens-by-sight = λ r a k old new old′ new′ alike.
-      by-part ps a (λ o. ((n : ℕ) → told (λ p. awaits-of p n) false o ≡ true → new n ≡ new′ n) → told (λ p. opens-of r p k new) false o ≡ told (λ p. opens-of r p k new′) false o)
-      (λ h. refl) (λ p e h. opens-sight r p k new new′ (small-nth ps a p tight e) h) (alike .awaited);
+        by-part ps a (λ o. ((n : ℕ) → told (λ p. awaits-of p n) false o ≡ true → new n ≡ new′ n) → told (λ p. opens-of r p k new) false o ≡ told (λ p. opens-of r p k new′) false o)
+        (λ h. refl) (λ p e h. opens-sight r p k new new′ (small-nth ps a p tight e) h) (alike .awaited);
     gives-by-sight = λ r a k n old new old′ new′ alike.
-      by-part ps a (λ o. (r ≡ Update → (i : ℕ) → told (λ p. reads-of p i) false o ≡ true → old i ≡ old′ i) → told (given-to r k n old) (pos 0) o ≡ told (given-to r k n old′) (pos 0) o)
-      (λ h. refl) (λ p e h. ap (λ v. pos (cond (controls-of p n) v 0)) (gives-sight r p k old old′ (small-nth ps a p tight e) h)) (alike .read);
+        by-part ps a (λ o. (r ≡ Update → (i : ℕ) → told (λ p. reads-of p i) false o ≡ true → old i ≡ old′ i) → told (given-to r k n old) (pos 0) o ≡ told (given-to r k n old′) (pos 0) o)
+        (λ h. refl) (λ p e h. ap (λ v. pos (cond (controls-of p n) v 0)) (gives-sight r p k old old′ (small-nth ps a p tight e) h)) (alike .read);
   }
 
   -- what a gate list means

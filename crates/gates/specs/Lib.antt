@@ -4,5 +4,6 @@ pub mod GateLists
 pub mod Gates
 pub mod Laws
 pub mod Meaning
+pub mod OpenedLaws
 pub mod Readings
 pub mod Rows

@@ -13,9 +13,21 @@ use model::value_of;
 // `reset` off, and `out` shows what was stored.
 #[derive(Clone, Copy, PartialEq, Eq, Debug)]
 pub enum Gate {
-    Not { a: u8, out: u8 },
-    And { a: u8, b: u8, out: u8 },
-    Latch { set: u8, reset: u8, out: u8, own: u8 },
+    Not {
+        a: u8,
+        out: u8,
+    },
+    And {
+        a: u8,
+        b: u8,
+        out: u8,
+    },
+    Latch {
+        set: u8,
+        reset: u8,
+        out: u8,
+        own: u8,
+    },
 }
 
 impl Gate {
@@ -63,8 +75,14 @@ impl Part {
             (Part::Inverter { a, .. }, Field::Input) => name == a,
             (Part::Conjunction { a, b, .. }, Field::Input) => name == a || name == b,
             (Part::LatchStore { set, reset, .. }, Field::Input) => name == set || name == reset,
-            (Part::Inverter { out, .. } | Part::Conjunction { out, .. } | Part::LatchOutput { out, .. }, Field::Out) => name == out,
-            (Part::LatchOutput { own, .. } | Part::LatchStore { own, .. }, Field::Own) => name == own,
+            (
+                Part::Inverter { out, .. }
+                | Part::Conjunction { out, .. }
+                | Part::LatchOutput { out, .. },
+                Field::Out,
+            ) => name == out,
+            (Part::LatchOutput { own, .. } | Part::LatchStore { own, .. }, Field::Own) => name
+                == own,
             _ => false,
         }
     }
@@ -73,7 +91,9 @@ impl Part {
         ensures { λ r. ⌜ ((n : ℕ) → has r n ≡ controls-of self n) ⌝ }
     {
         match self {
-            Part::Inverter { out, .. } | Part::Conjunction { out, .. } | Part::LatchOutput { out, .. } => Names::none().with(out),
+            Part::Inverter { out, .. }
+            | Part::Conjunction { out, .. }
+            | Part::LatchOutput { out, .. } => Names::none().with(out),
             Part::LatchStore { own, .. } => Names::none().with(own),
         }
     }
@@ -121,7 +141,8 @@ impl Part {
             (Part::LatchOutput { .. }, 1) => matches!(round, Round::Initial),
             (Part::LatchStore { set, .. }, 0) => value_of(new, set) == 1,
             (Part::LatchStore { reset, .. }, 1) => value_of(new, reset) == 1,
-            (Part::LatchStore { set, reset, .. }, 2) => value_of(new, set) == 0 && value_of(new, reset) == 0,
+            (Part::LatchStore { set, reset, .. }, 2) => value_of(new, set) == 0
+                && value_of(new, reset) == 0,
             _ => false,
         }
     }

@@ -6,7 +6,6 @@ mod names;
 
 pub use names::Names;
 
-
 // How a module's variable is controlled and seen: by the module alone, by the module for all to see,
 // or by its surroundings.
 #[derive(Clone, Copy, PartialEq, Eq, Debug)]

@@ -33,7 +33,11 @@ impl Parts {
     pub fn get(&self, atom: u8) -> Option<Part>
         ensures { λ r. ⌜ r ≡ nth (listed (now (self .entry))) atom ⌝ }
     {
-        if atom < self.count { Some(self.row[atom as usize]) } else { None }
+        if atom < self.count {
+            Some(self.row[atom as usize])
+        } else {
+            None
+        }
     }
 
     // The row with one part more, if there is room.
@@ -65,7 +69,8 @@ impl Parts {
                 reset,
                 out,
                 own,
-            } => self.with(Part::LatchOutput { out, own })?.with(Part::LatchStore { set, reset, own }),
+            } => self.with(Part::LatchOutput { out, own })?
+                .with(Part::LatchStore { set, reset, own }),
         }
     }
 

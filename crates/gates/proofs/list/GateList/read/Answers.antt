@@ -9,7 +9,8 @@ use Rattle.std.proofs.shelf.Lists.{length-drop, drop-drop, take-rest}
 use Rattle.gates.specs.GateLists.{breaks, parts-upto, opened-at, opened}
 use Rattle.model.specs.Tests.{lowest}
 use Rattle.model.proofs.Bounded.{lowest-none, lowest-more, lowest-at}
-use Rattle.gates.proofs.Opening.{parts-none, gate-dropped, fault-found, no-fault, grows}
+use Rattle.gates.specs.OpenedLaws.{parts-none}
+use Rattle.gates.proofs.Opening.{gate-dropped, fault-found, no-fault, grows}
 use Rattle.gates.proofs.list.GateList.read.Needs as need
 
 pub loop-rest-holds : need.loop-rest-holds
@@ -45,12 +46,13 @@ loop-rest-again c =
     let five : 5 ≤ length (c .loop-rest .rest .now) = search needs in
     let more : 5 * i + 5 ≤ length bs = omega (arith, length-drop (5 * i) bs, ap length (inv .1), five) in
     let fine = c .in-Some .ensures tt in
-    let next : 5 * i + 5 ≡ 5 * (i + 1) = omega arith in
-    ( omega arith
-    , take-rest (c .loop-rest .rest .now) 5 ∙ ap (drop 5) (inv .1) ∙ drop-drop 5 (5 * i) bs ∙ ap (λ k. drop k bs) next
-    , fine .1 ∙ ap (parts-upto bs) (sym (add-one i))
-    , lowest-more (breaks bs) i (inv .3) (fine .0)
-    , omega (arith, grows bs i (fine .0), ap length (fine .1), ap length (inv .2)))
+    let next : 5 * i + 5 ≡ 5 * (i + 1) = omega arith in (
+      omega arith,
+      take-rest (c .loop-rest .rest .now) 5 ∙ ap (drop 5) (inv .1) ∙ drop-drop 5 (5 * i) bs ∙ ap (λ k. drop k bs) next,
+      fine .1 ∙ ap (parts-upto bs) (sym (add-one i)),
+      lowest-more (breaks bs) i (inv .3) (fine .0),
+      omega (arith, grows bs i (fine .0), ap length (fine .1), ap length (inv .2)),
+    )
 
 pub returns : need.returns
 returns c =

@@ -4,7 +4,8 @@ use Rattle.std.specs.declared.option.Option.the-variants.{Some}
 use lib.ListN.{length}
 use Rattle.gates.specs.GateLists.{gate-at, is-latch, same-own}
 use Rattle.model.specs.Tests.{some}
-use Rattle.gates.proofs.Opening.{gate-small-at, judged}
+use Rattle.gates.specs.OpenedLaws.{gate-small-at}
+use Rattle.gates.proofs.Opening.{judged}
 use Rattle.gates.proofs.list.opening.judge.Needs as need
 
 pub with-gate-requires : need.with-gate-requires

@@ -1,0 +1,14 @@
+pub mod Clashes
+pub mod Faults
+pub mod Fitting
+pub mod Hiding
+pub mod Joining
+pub mod Parts
+pub mod Putting
+pub mod Renaming
+pub mod Reordering
+pub mod Seen
+pub mod States
+pub mod Tests
+pub mod Trajectories
+pub mod Views

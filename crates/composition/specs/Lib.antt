@@ -1,0 +1,12 @@
+pub mod Acts
+pub mod ChoiceLaws
+pub mod Exchange
+pub mod ExchangeLaws
+pub mod FaultLaws
+pub mod Faults
+pub mod Meanings
+pub mod OutlineLaws
+pub mod Outlines
+pub mod Same
+pub mod Statements
+pub mod Views

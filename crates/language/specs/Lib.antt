@@ -1,0 +1,7 @@
+pub mod ExpressionLaws
+pub mod Expressions
+pub mod Fronts
+pub mod Statements
+pub mod TableLaws
+pub mod TableReading
+pub mod Tables
