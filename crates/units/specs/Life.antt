@@ -1,7 +1,9 @@
 -- Which units can come from the site: any that sealing makes, and what any call leaves of one, whatever the call
--- carried and whether it was refused or not. Assumes nothing.
+-- carried and whether it was refused or not. A round is opened with 32 values. Assumes nothing.
 use mathlib.Core.List.{List}
+use mathlib.Core.Path.{_≡_}
 use Prim.Native.Nat.{ℕ}
+use lib.ListN.{length}
 use Rattle.model.specs.Meanings.{Meaning}
 use Rattle.units.specs.Units.{Unit-model, Slip, seal, rename-unit, hide-unit, join-units, claim, certify, refute, open-round, fire, end-round, stop}
 
@@ -10,7 +12,7 @@ pub data Came : Unit-model → Type 0 where
   by-claim : (u : Unit-model) (bytes : List ℕ) → Came u → Came (claim u bytes .unit)
   by-certify : (u : Unit-model) (i : ℕ) (bytes : List ℕ) → Came u → Came (certify u i bytes .unit)
   by-refute : (u : Unit-model) (i : ℕ) (bytes : List ℕ) → Came u → Came (refute u i bytes .unit)
-  by-open : (u : Unit-model) (given : List ℕ) → Came u → Came (open-round u given .unit)
+  by-open : (u : Unit-model) (given : List ℕ) → length given ≡ 32 → Came u → Came (open-round u given .unit)
   by-fire : (u : Unit-model) (slip : Slip) (atom choice : ℕ) → Came u → Came (fire u slip atom choice .unit)
   by-end : (u : Unit-model) (slip : Slip) → Came u → Came (end-round u slip .unit)
   by-stop : (u : Unit-model) → Came u → Came (stop u .unit)

@@ -1,0 +1,14 @@
+pub mod Acting
+pub mod Awaiting
+pub mod Chains
+pub mod Completing
+pub mod Controlling
+pub mod Fit
+pub mod Judged
+pub mod Leading
+pub mod Operations
+pub mod Order
+pub mod Rounds
+pub mod Same
+pub mod Sorting
+pub mod States
