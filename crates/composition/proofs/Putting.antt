@@ -14,7 +14,7 @@ use Rattle.model.specs.declared.Fault.{Fault}
 use Rattle.model.specs.declared.Round.{Round}
 use Rattle.composition.proofs.Faults.{sound-is}
 use Rattle.composition.specs.Acts.{seen-below}
-use Rattle.composition.specs.Exchange.{exchange}
+use Rattle.model.specs.Exchange.{exchange}
 use Rattle.composition.specs.ExchangeLaws.{exchange-both}
 use Rattle.composition.specs.FaultLaws.{Renames, renames}
 use Rattle.composition.specs.Faults.{fault-of-renamed}

@@ -24,7 +24,7 @@ use Rattle.composition.proofs.Trajectories.{Simulates, reachable-along}
 use Rattle.composition.proofs.Views.{length-as-state, exchanged-at, exchanged-twice, exchanged-nothing}
 use Rattle.composition.specs.Acts.{seen-below}
 use Rattle.composition.specs.Same.{Same-answers}
-use Rattle.composition.specs.Exchange.{exchange}
+use Rattle.model.specs.Exchange.{exchange}
 use Rattle.composition.specs.ExchangeLaws.{exchange-old, exchange-new, exchange-twice, exchange-flip, exchange-within}
 use Rattle.composition.specs.FaultLaws.{Renames, renames}
 use Rattle.composition.specs.Faults.{fault-of-renamed}

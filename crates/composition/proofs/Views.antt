@@ -13,7 +13,7 @@ use Rattle.std.specs.Options.{isSome}
 use Rattle.model.specs.Meanings.{Valuation, OutlineFacts}
 use Rattle.model.specs.States.{value, nothing}
 use Rattle.composition.specs.Acts.{seen-below}
-use Rattle.composition.specs.Exchange.{exchange}
+use Rattle.model.specs.Exchange.{exchange}
 use Rattle.composition.specs.ExchangeLaws.{exchange-both, exchange-twice, exchange-within}
 use Rattle.composition.specs.Views.{as-state, projected, exchanged}
 

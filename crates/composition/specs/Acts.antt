@@ -5,7 +5,7 @@ use lib.IntN.{pos}
 use Rattle.std.specs.declared.option.Option.{Option}
 use Rattle.model.specs.Meanings.{Valuation, ChoiceFacts, Meaning}
 use Rattle.model.specs.declared.Fault.{Fault}
-use Rattle.composition.specs.Exchange.{exchange}
+use Rattle.model.specs.Exchange.{exchange}
 use Rattle.composition.specs.Faults.{fault-of-renamed, fault-of-hidden, fault-of-joined}
 use Rattle.composition.specs.Outlines.{sound-or, by-atom}
 

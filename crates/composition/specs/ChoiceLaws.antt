@@ -13,7 +13,7 @@ use Rattle.model.specs.Meanings.{Valuation, OutlineFacts, ChoiceFacts, Alike, C
 use Rattle.model.specs.declared.Fault.{Fault}
 use Rattle.model.specs.declared.Round.{Round}
 use Rattle.composition.specs.Acts.{acts-with, seen-below, renamed-choices, renamed-acts, hidden-acts, joined-choices, joined-acts}
-use Rattle.composition.specs.Exchange.{exchange}
+use Rattle.model.specs.Exchange.{exchange}
 use Rattle.composition.specs.ExchangeLaws.{exchange-twice}
 use Rattle.composition.specs.Faults.{fault-of-renamed, fault-of-hidden, fault-of-joined}
 use Rattle.composition.specs.OutlineLaws.{by-atom-both, by-atom-left, by-atom-right}

@@ -1,6 +1,5 @@
 pub mod Acts
 pub mod ChoiceLaws
-pub mod Exchange
 pub mod ExchangeLaws
 pub mod FaultLaws
 pub mod Faults

@@ -14,7 +14,7 @@ use Rattle.model.specs.Meanings.{OutlineFacts, OutlineLaws}
 use Rattle.model.specs.declared.Fault.{Fault}
 use Rattle.model.specs.declared.Kind.{Kind}
 use Rattle.model.specs.declared.Kind.the-variants.{Private, Interface, External}
-use Rattle.composition.specs.Exchange.{exchange}
+use Rattle.model.specs.Exchange.{exchange}
 use Rattle.composition.specs.ExchangeLaws.{exchange-twice, exchange-from}
 use Rattle.composition.specs.FaultLaws.{some≢none, none-from, Numbered, numbered-at, Renames, renames, renamed-numbered, Hides, hides, hidden-numbered, Joins, joins, joined-numbered}
 use Rattle.composition.specs.Faults.{is-private, is-interface, fault-of-renamed, fault-of-hidden, fault-of-joined}

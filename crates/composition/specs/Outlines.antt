@@ -9,7 +9,7 @@ use Rattle.model.specs.Meanings.{OutlineFacts}
 use Rattle.model.specs.declared.Fault.{Fault}
 use Rattle.model.specs.declared.Kind.{Kind}
 use Rattle.model.specs.declared.Kind.the-variants.{Private, Interface, External}
-use Rattle.composition.specs.Exchange.{exchange}
+use Rattle.model.specs.Exchange.{exchange}
 use Rattle.composition.specs.Faults.{told, fault-of-renamed, fault-of-hidden, fault-of-joined}
 
 -- x where there is no fault, else what tells nothing

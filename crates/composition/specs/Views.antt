@@ -6,7 +6,7 @@ use Rattle.std.specs.Iters.{counting}
 use Rattle.std.specs.Options.{isSome}
 use Rattle.model.specs.Meanings.{Valuation, OutlineFacts}
 use Rattle.model.specs.States.{value}
-use Rattle.composition.specs.Exchange.{exchange}
+use Rattle.model.specs.Exchange.{exchange}
 
 -- the values of the 32 names
 unfoldable pub as-state : Valuation → List ℕ

@@ -12,13 +12,14 @@ use Rattle.std.proofs.shelf.Lists.{length-append, append-assoc}
 use Rattle.std.proofs.shelf.Tests.{and-from, and-parts, ltb-true, lt-ltb}
 use Rattle.std.proofs.shelf.Ways.{tells}
 use Rattle.model.specs.Meanings.{Valuation}
-use Rattle.language.specs.Expressions.{Number, constant, old-value, new-value, sum, difference, Truth, equal, less, negation, conjunction, disjunction, always, number-bytes, truth-bytes, number-levels, truth-levels, number-value, truth-value, eqZ, Seen, number-sees, truth-sees, swap, swapped, seen-swapped, number-renamed, truth-renamed, operator, bytes-renamed}
+use Rattle.language.specs.Expressions.{Number, constant, old-value, new-value, sum, difference, Truth, equal, less, negation, conjunction, disjunction, always, number-bytes, truth-bytes, number-levels, truth-levels, number-value, truth-value, eqZ, Seen, number-sees, truth-sees, swapped, seen-swapped, number-renamed, truth-renamed, operator, bytes-renamed}
+use Rattle.model.specs.Exchange.{exchange}
 use Rattle.language.specs.Statements.{Renaming-exchanges-names}
 
-pub swap-swap : (a b n : ℕ) → swap a b (swap a b n) ≡ n
+pub swap-swap : (a b n : ℕ) → exchange a b (exchange a b n) ≡ n
 swap-swap a b n = grind (arith, tells)
 
-pub swap-small : (a b n : ℕ) → a < 256 → b < 256 → n < 256 → swap a b n < 256
+pub swap-small : (a b n : ℕ) → a < 256 → b < 256 → n < 256 → exchange a b n < 256
 swap-small a b n h g l = grind (arith, tells)
 
 module _ (a b : ℕ) where
@@ -94,10 +95,10 @@ module _ (a b : ℕ) where
     both-pass : (x y x′ y′ : Bool) → (x ≡ true → x′ ≡ true) → (y ≡ true → y′ ≡ true) → (x && y) ≡ true → (x′ && y′) ≡ true
     both-pass x y x′ y′ f g h = let p = and-parts x y h in and-from x′ y′ (f (p .0)) (g (p .1))
 
-    name-sees : (seen : ℕ → Bool) (n : ℕ) → (ltb n 256 && seen n) ≡ true → (ltb (swap a b n) 256 && swapped a b seen (swap a b n)) ≡ true
+    name-sees : (seen : ℕ → Bool) (n : ℕ) → (ltb n 256 && seen n) ≡ true → (ltb (exchange a b n) 256 && swapped a b seen (exchange a b n)) ≡ true
     name-sees seen n h =
         let p = and-parts (ltb n 256) (seen n) h in
-        and-from _ _ (lt-ltb (swap a b n) 256 (swap-small a b n ha hb (ltb-true n 256 (p .0)))) (ap seen (swap-swap a b n) ∙ p .1)
+        and-from _ _ (lt-ltb (exchange a b n) 256 (swap-small a b n ha hb (ltb-true n 256 (p .0)))) (ap seen (swap-swap a b n) ∙ p .1)
 
     number-sees-renamed : (e : Number) → number-sees s e ≡ true → number-sees (seen-swapped a b s) (number-renamed a b e) ≡ true
     number-sees-renamed (constant v) h = h

@@ -11,6 +11,7 @@ use lib.Signed.{ltZ}
 use Rattle.std.specs.declared.option.Option.{Option}
 use Rattle.std.specs.declared.option.Option.the-variants.{Some, None}
 use Rattle.std.specs.shelf.Maps.{nth}
+use Rattle.model.specs.Exchange.{exchange}
 use Rattle.model.specs.Meanings.{Valuation}
 
 pub data Number : Type 0 where
@@ -228,20 +229,16 @@ abbrev pub expression-fault : {X : Type 0} → Reading X → Option ℕ
 expression-fault (good x end) = None
 expression-fault (bad place) = Some place
 
--- the exchange of the names a and b
-abbrev pub swap : ℕ → ℕ → ℕ → ℕ
-swap a b n = cond (eqb n a) b (cond (eqb n b) a n)
-
 abbrev pub swapped : {X : Type 0} → ℕ → ℕ → (ℕ → X) → ℕ → X
-swapped a b f n = f (swap a b n)
+swapped a b f n = f (exchange a b n)
 
 abbrev pub seen-swapped : ℕ → ℕ → Seen → Seen
 seen-swapped a b s = record { old = swapped a b (s .old); new = swapped a b (s .new) }
 
 abbrev pub number-renamed : ℕ → ℕ → Number → Number
 number-renamed a b (constant v) = constant v
-number-renamed a b (old-value n) = old-value (swap a b n)
-number-renamed a b (new-value n) = new-value (swap a b n)
+number-renamed a b (old-value n) = old-value (exchange a b n)
+number-renamed a b (new-value n) = new-value (exchange a b n)
 number-renamed a b (sum x y) = sum (number-renamed a b x) (number-renamed a b y)
 number-renamed a b (difference x y) = difference (number-renamed a b x) (number-renamed a b y)
 
@@ -267,4 +264,4 @@ abbrev pub bytes-renamed : ℕ → ℕ → Next → List ℕ → List ℕ
 bytes-renamed a b at [] = []
 bytes-renamed a b operator (x ∷ xs) = x ∷ bytes-renamed a b (following x) xs
 bytes-renamed a b value (x ∷ xs) = x ∷ bytes-renamed a b operator xs
-bytes-renamed a b name (x ∷ xs) = swap a b x ∷ bytes-renamed a b operator xs
+bytes-renamed a b name (x ∷ xs) = exchange a b x ∷ bytes-renamed a b operator xs

@@ -11,7 +11,7 @@ use Rattle.std.specs.Options.{isSome}
 use Rattle.std.specs.declared.option.Option.the-variants.{Some, None}
 use Rattle.std.specs.shelf.Lists.{All}
 use Rattle.std.specs.shelf.Maps.{nth}
-use Rattle.composition.specs.Exchange.{exchange}
+use Rattle.model.specs.Exchange.{exchange}
 use Rattle.composition.specs.FaultLaws.{hides}
 use Rattle.composition.specs.Faults.{fault-of-renamed, fault-of-hidden, fault-of-joined}
 use Rattle.composition.specs.Meanings.{renamed, hidden, joined}

@@ -1,3 +1,4 @@
+pub mod Exchange
 pub mod Meanings
 pub mod Sets
 pub mod States

@@ -12,7 +12,7 @@ use Rattle.std.specs.Options.{isSome}
 use Rattle.std.specs.declared.option.Option.{Option}
 use Rattle.std.specs.declared.option.Option.the-variants.{Some, None}
 use Rattle.composition.specs.Acts.{acts-with, renamed-choices, joined-choices}
-use Rattle.composition.specs.Exchange.{exchange}
+use Rattle.model.specs.Exchange.{exchange}
 use Rattle.composition.specs.ExchangeLaws.{exchange-twice}
 use Rattle.composition.specs.FaultLaws.{Fits, hides, joins}
 use Rattle.composition.specs.Faults.{is-private, is-interface, clash}

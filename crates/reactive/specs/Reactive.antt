@@ -4,7 +4,7 @@ use mathlib.Core.List.{List, [], _∷_}
 use mathlib.Core.Logic.{_⊎_, inl, inr, _↔_}
 use mathlib.Core.Path.{_≡_}
 use Prim.Native.Nat.{ℕ}
-use Rattle.composition.specs.Exchange.{exchange}
+use Rattle.model.specs.Exchange.{exchange}
 use Rattle.theory.specs.Members.{Member, Distinct}
 use Rattle.theory.specs.Runs.{Trajectory}
 
