@@ -1,0 +1,2 @@
+mod Below
+mod Digits
