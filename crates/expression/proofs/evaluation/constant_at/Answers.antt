@@ -1,0 +1,7 @@
+use mathlib.Core.Path.{sym}
+use native.Mathlib.Omega.{arith}
+use Rattle.expression.proofs.Steps.{byte-inside}
+use Rattle.expression.proofs.evaluation.constant_at.Needs as need
+
+pub add-result : need.add-result
+add-result c = omega (arith, byte-inside (c .args .bytes .now) (c .args .place) (c .in-Continue-constant .constant) (sym (c .in-Continue-constant .ensures tt)))

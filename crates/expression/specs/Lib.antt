@@ -1,0 +1,5 @@
+pub mod Checking
+pub mod Evaluation
+pub mod Operators
+pub mod Promises
+pub mod Renaming
