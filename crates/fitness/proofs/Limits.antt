@@ -1,9 +1,9 @@
 -- Counts and products by steps, and products that stop growing at a limit. Assumes nothing.
-use mathlib.Core.Bool.{Bool, true, false, cond}
-use mathlib.Core.Logic.{_⊎_, inl, inr, ⊎-elim}
-use mathlib.Core.Path.{_≡_, refl, sym, ap, subst, _∙_}
+use mathlib.Core.Bool.{Bool, true, false}
+use mathlib.Core.Logic.{⊎-elim}
+use mathlib.Core.Path.{_≡_, refl, sym, ap, _∙_}
 use Prim.Native.Nat.{ℕ, zero, suc, _+_, _*_, _<_, _≤_, min}
-use native.Mathlib.Nat.{mul-assoc, mul-one, mul-zero, zero-mul, mul-le-mul-left, mul-le-mul-right, min-eq-left, min-eq-right}
+use native.Mathlib.Nat.{mul-assoc, mul-one, mul-zero, mul-le-mul-left}
 use native.Mathlib.Numerals.{add-one}
 use native.Mathlib.Omega.{arith}
 use lib.Dec.{ltb}

@@ -10,8 +10,8 @@ use Rattle.std.proofs.shelf.Tests.{and-from, and-left, and-right, or-right, lt-
 use Rattle.model.specs.Meanings.{OutlineFacts}
 use Rattle.model.specs.Sets.{is-name}
 use Rattle.model.specs.Tests.{some}
-use Rattle.units.specs.Sealing.{awaits-atom, awaits-through}
-use Rattle.fitness.specs.Steps.{steps-to, leads-to}
+use Rattle.units.specs.Sealing.{awaits-atom, awaits-through, circular}
+use Rattle.fitness.specs.Steps.{steps-to, leads-to, through}
 
 -- tests that agree below the bound
 pub some-same : (p q : ℕ → Bool) (n : ℕ) → ((k : ℕ) → k < n → p k ≡ q k) → some p n ≡ some q n
@@ -31,21 +31,30 @@ or-false false = refl
 and-given : (x y : Bool) → x ≡ true → (x && y) ≡ y
 and-given x y e = ap (λ v. v && y) e
 
-module _ (o : OutlineFacts) (goal : ℕ) where
+module _ (awaits : ℕ → ℕ → Bool) (atoms goal : ℕ) where
   -- those that await the goal through at most so many others, and are atoms
   abbrev pub behind : ℕ → ℕ → Bool
-  behind others a = ltb a (o .atoms) && awaits-through o others a goal
+  behind others a = ltb a atoms && through awaits atoms others a goal
 
-  pub behind-none : (none : ℕ → Bool) → ((a : ℕ) → none a ≡ false) → (a : ℕ) → (ltb a (o .atoms) && leads-to o none goal a) ≡ behind 0 a
-  unfolding awaits-through
+  pub behind-none : (none : ℕ → Bool) → ((a : ℕ) → none a ≡ false) → (a : ℕ) → (ltb a atoms && leads-to awaits atoms none goal a) ≡ behind 0 a
+  unfolding through
   behind-none none h a =
-      ap (λ v. ltb a (o .atoms) && (awaits-atom o a goal || v)) (some-same (steps-to o none a) (λ _. false) (o .atoms) (λ k _. and-right (awaits-atom o a k) (none k) (h k)) ∙ some-never (o .atoms))
-      ∙ ap (λ v. ltb a (o .atoms) && v) (or-false (awaits-atom o a goal))
+      ap (λ v. ltb a atoms && (awaits a goal || v)) (some-same (steps-to awaits none a) (λ _. false) atoms (λ k _. and-right (awaits a k) (none k) (h k)) ∙ some-never atoms)
+      ∙ ap (λ v. ltb a atoms && v) (or-false (awaits a goal))
 
-  pub behind-more : (others : ℕ) (before : ℕ → Bool) → ((a : ℕ) → before a ≡ behind others a) → (a : ℕ) → (ltb a (o .atoms) && leads-to o before goal a) ≡ behind (others + 1) a
-  unfolding awaits-through
+  pub behind-more : (others : ℕ) (before : ℕ → Bool) → ((a : ℕ) → before a ≡ behind others a) → (a : ℕ) → (ltb a atoms && leads-to awaits atoms before goal a) ≡ behind (others + 1) a
+  unfolding through
   behind-more others before h a =
-      rw add-one (ap (λ v. ltb a (o .atoms) && (awaits-atom o a goal || v)) (some-same (steps-to o before a) (λ c. awaits-atom o a c && awaits-through o others c goal) (o .atoms) (λ k l. ap (λ v. awaits-atom o a k && v) (h k ∙ and-given (ltb k (o .atoms)) (awaits-through o others k goal) (lt-ltb k (o .atoms) l)))))
+      rw add-one (ap (λ v. ltb a atoms && (awaits a goal || v)) (some-same (steps-to awaits before a) (λ c. awaits a c && through awaits atoms others c goal) atoms (λ k l. ap (λ v. awaits a k && v) (h k ∙ and-given (ltb k atoms) (through awaits atoms others k goal) (lt-ltb k atoms l)))))
+
+-- a table that is right on the atoms tells rightly who awaits whom through others
+pub through-same : (o : OutlineFacts) (awaits : ℕ → ℕ → Bool) → ((a b : ℕ) → a < o .atoms → b < o .atoms → awaits a b ≡ awaits-atom o a b) →
+    (others a b : ℕ) → a < o .atoms → b < o .atoms → through awaits (o .atoms) others a b ≡ awaits-through o others a b
+unfolding through awaits-through
+through-same o awaits h zero a b l m = h a b l m
+through-same o awaits h (suc others) a b l m =
+    ap₂ _||_ (h a b l m)
+    (some-same (λ c. awaits a c && through awaits (o .atoms) others c b) (λ c. awaits-atom o a c && awaits-through o others c b) (o .atoms) (λ c k. ap₂ _&&_ (h a c l k) (through-same o awaits h others c b k m)))
 
 pub none-passing : (p : ℕ → Bool) (a : ℕ) → (ltb a 0 && p a) ≡ false
 none-passing p a = and-left (ltb a 0) (p a) (le-ltb a 0 (omega arith))
@@ -72,3 +81,8 @@ with-failing p s i hs e a = hs a ∙ go (cases-eq a i)
     go : (a ≡ i) ⊎ (a ≡ i → ⊥) → (ltb a i && p a) ≡ (ltb a (i + 1) && p a)
     go (inl eq) = and-right (ltb a i) (p a) (ap p eq ∙ e) ∙ sym (and-right (ltb a (i + 1)) (p a) (ap p eq ∙ e))
     go (inr ne) = ap (λ v. v && p a) (ltb-next a i ne)
+
+pub circular-by : (o : OutlineFacts) (awaits : ℕ → ℕ → Bool) → ((a b : ℕ) → a < 16 → b < 16 → awaits a b ≡ awaits-atom o a b) → o .atoms ≤ 16 →
+    (atoms : ℕ) → atoms ≡ o .atoms → (a : ℕ) → a < o .atoms → (r : Bool) → r ≡ through awaits atoms atoms a a → circular o a ≡ r
+circular-by o awaits h few atoms e a l r f =
+    sym (f ∙ ap (λ n. through awaits n n a a) e ∙ through-same o awaits (λ x y p q. h x y (omega arith) (omega arith)) (o .atoms) a a l l)

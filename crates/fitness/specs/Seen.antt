@@ -1,10 +1,10 @@
 -- Going through the values that an atom sees, place by place. Assumes nothing.
-use mathlib.Core.Bool.{Bool, true, false, not, _&&_, _||_, cond}
+use mathlib.Core.Bool.{Bool, not, _&&_, _||_, cond}
 use mathlib.Core.List.{List}
 use Prim.Native.Nat.{ℕ, zero, suc, _+_, _-_}
 use lib.Dec.{ltb}
 use lib.ListN.{set}
-use Rattle.model.specs.Meanings.{OutlineFacts, ChoiceFacts, Meaning}
+use Rattle.model.specs.Meanings.{OutlineFacts, ChoiceFacts}
 use Rattle.model.specs.States.{value}
 use Rattle.model.specs.Tests.{some}
 use Rattle.model.specs.declared.Round.{Round}

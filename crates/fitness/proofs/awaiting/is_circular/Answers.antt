@@ -1,10 +1,11 @@
 use mathlib.Core.Bool.{_&&_}
-use mathlib.Core.Path.{_≡_, ap, _∙_}
-use lib.Dec.{ltb}
+use mathlib.Core.Path.{ap, _∙_}
 use Rattle.std.proofs.shelf.Tests.{lt-ltb}
-use Rattle.units.specs.Sealing.{circular}
+use Rattle.fitness.specs.Steps.{direct, through}
 use Rattle.fitness.proofs.awaiting.is_circular.Needs as need
 
 pub returns : need.returns
-returns g c =
-    c .has .ensures ∙ c .all-behind .ensures (c .args .atom) ∙ ap (λ v. v && circular (g .D·Outline .outline (c .args .drawing .now)) (c .args .atom)) (lt-ltb (c .args .atom) (g .D·Outline .outline (c .args .drawing .now) .atoms) (c .pre .there))
+returns c =
+    c .has .ensures
+    ∙ c .all-behind .ensures (c .args .atom)
+    ∙ ap (λ v. v && through (direct (c .args .table .now)) (c .args .atoms) (c .args .atoms) (c .args .atom) (c .args .atom)) (lt-ltb (c .args .atom) (c .args .atoms) (c .pre .there))

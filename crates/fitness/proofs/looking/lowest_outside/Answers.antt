@@ -1,4 +1,4 @@
-use mathlib.Core.Path.{_≡_, sym, ap, _∙_}
+use mathlib.Core.Path.{sym, ap, _∙_}
 use Rattle.fitness.specs.Seen.{found}
 use Rattle.fitness.specs.declared.rows.Test.the-variants.{GivesOutside}
 use Rattle.model.specs.Meanings.{OutlineFacts}

@@ -1,5 +1,3 @@
-use mathlib.Core.Path.{_≡_, sym, ap, ap₂, _∙_}
-use Prim.Native.Nat.{_*_, _≤_, min}
 use native.Mathlib.Omega.{arith}
 use Rattle.fitness.specs.Factors.{seen-values}
 use Rattle.fitness.proofs.Limits.{stopped-none, stopped-more, stopped-all}

@@ -1,4 +1,4 @@
-use mathlib.Core.Path.{_≡_, sym, ap, _∙_}
+use mathlib.Core.Path.{ap, _∙_}
 use lib.Dec.{ltb}
 use Rattle.units.specs.Sealing.{sight}
 use Rattle.fitness.proofs.Limits.{past}

@@ -1,9 +1,9 @@
-use mathlib.Core.Path.{_≡_, sym, ap, ap₂, _∙_}
-use Prim.Native.Nat.{_*_, _≤_, min}
+use mathlib.Core.Path.{_≡_, ap, _∙_}
+use Prim.Native.Nat.{_*_, min}
 use native.Mathlib.Omega.{arith}
 use Rattle.fitness.specs.Factors.{larger-count}
 use Rattle.units.specs.Counting.{product}
-use Rattle.fitness.proofs.Limits.{stopped-none, stopped-more, stopped-all}
+use Rattle.fitness.proofs.Limits.{stopped-none, stopped-more}
 use Rattle.fitness.proofs.width.full_width.Needs as need
 
 pub loop-atom-holds : need.loop-atom-holds

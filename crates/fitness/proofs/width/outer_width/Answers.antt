@@ -1,5 +1,4 @@
-use mathlib.Core.Path.{_≡_, sym, ap, ap₂, _∙_}
-use Prim.Native.Nat.{_*_, _≤_, min}
+use mathlib.Core.Path.{ap, ap₂, _∙_}
 use native.Mathlib.Omega.{arith}
 use Rattle.fitness.specs.Factors.{external-values}
 use Rattle.units.specs.Sealing.{is-external, times-if}

@@ -2,7 +2,7 @@ use mathlib.Core.Path.{_≡_, sym}
 use native.Mathlib.Omega.{arith}
 use Rattle.fitness.specs.Steps.{shared}
 use Rattle.model.proofs.Bounded.{some-none, some-more, some-at}
-use Rattle.fitness.proofs.awaiting.meet.Needs as need
+use Rattle.fitness.proofs.table.meet.Needs as need
 
 pub loop-name-holds : need.loop-name-holds
 loop-name-holds c = some-none (shared (c .args .left .now) (c .args .right .now))

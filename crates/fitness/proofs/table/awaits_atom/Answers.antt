@@ -1,7 +1,7 @@
 use mathlib.Core.Bool.{_&&_}
-use mathlib.Core.Path.{_≡_, ap₂, _∙_}
+use mathlib.Core.Path.{ap₂, _∙_}
 use Rattle.fitness.proofs.Through.{some-same}
-use Rattle.fitness.proofs.awaiting.awaits_atom.Needs as need
+use Rattle.fitness.proofs.table.awaits_atom.Needs as need
 
 pub returns : need.returns
 returns g c =
