@@ -1,4 +1,6 @@
 // Tests of drawings that are piled while the test runs. The expected answers are worked out by hand from the rules.
+#![tactic(auto)]
+
 #[cfg(test)]
 mod alike;
 #[cfg(test)]

@@ -1,4 +1,6 @@
 // Runs a script: reads it, and prints an answer for each line that asks for something.
+#![tactic(auto)]
+
 use script::{FileBytes, Mistake, Session};
 use std::fs::File;
 use std::io::{BufRead, BufReader};

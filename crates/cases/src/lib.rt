@@ -1,4 +1,6 @@
 // Worked cases, proved on the definitions. Each function answers 0, and exists so that its contract names a theorem.
+#![tactic(auto)]
+
 ghost use Rattle.cases.specs.Statements.{WorkedCasesComeOut, BrokenOnAPartHeldOnTheJoin};
 
 pub fn worked_cases_come_out() -> u8

@@ -1,4 +1,6 @@
 // What a line of a script asks for.
+#![tactic(auto)]
+
 mod command;
 mod hex;
 mod mistake;

@@ -1,5 +1,7 @@
 // The interface of drawings. Every question has an answer, for all arguments: what is not there is answered
 // absent, 0, empty or closed.
+#![tactic(auto)]
+
 ghost use Rattle.std.specs.Prelude.{ℕ, ◌≡◌};
 ghost use Rattle.model.specs.Meanings.{OutlineFacts, Meaning};
 ghost use Rattle.model.specs.Sets.{has};

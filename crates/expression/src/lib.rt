@@ -1,4 +1,6 @@
 // Expressions written as bytes: whether they are right, what they are worth, and the exchange of two names in them.
+#![tactic(auto)]
+
 mod checking;
 mod evaluation;
 mod operators;

@@ -1,4 +1,6 @@
 // Tests of expressions written as bytes. The expected answers are worked out by hand.
+#![tactic(auto)]
+
 #[cfg(test)]
 mod building;
 #[cfg(test)]

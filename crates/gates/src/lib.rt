@@ -1,4 +1,6 @@
 // Gate lists: a drawing written as records of five bytes, each a gate.
+#![tactic(auto)]
+
 mod gate;
 mod list;
 mod parts;

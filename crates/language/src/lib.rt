@@ -1,5 +1,7 @@
 // Expressions and byte tables. The definitions are in specs/; each function here answers 0 and stands for a theorem on
 // them, its contract, so that no check passes without the theorem's proof.
+#![tactic(auto)]
+
 ghost use Rattle.language.specs.Statements.{ExpressionsReadBack, ReadingsAreWritten, FormsArePrefixFree, WholeExpressionsAreWritten, ExpressionsAreReadFromTheFront, ValuesStayInRange, ComparisonsAreExact, ValuesGoBySight, RenamingExchangesNames, TablesReadBack, FaultsAreTheFirst, WorkedFaults, WorkedLevels};
 
 pub fn expressions_read_back() -> u8

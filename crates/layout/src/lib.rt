@@ -1,4 +1,6 @@
 // Where the parts of a byte table lie: its variables and the sets of its atoms read out, and the place of each choice.
+#![tactic(auto)]
+
 mod atoms;
 mod bytes;
 mod choices;

@@ -1,4 +1,6 @@
 // The types that every drawing and every unit speak of.
+#![tactic(auto)]
+
 ghost use Rattle.model.specs.States.{value};
 ghost use Rattle.std.specs.Prelude.{◌≡◌};
 

@@ -1,4 +1,6 @@
 // The choices of byte tables in infix notation, for people.
+#![tactic(auto)]
+
 mod choices;
 mod infix;
 

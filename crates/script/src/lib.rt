@@ -1,4 +1,6 @@
 // The script language: what a line says, and what is answered.
+#![tactic(auto)]
+
 mod ask;
 mod command;
 mod facts;

@@ -1,4 +1,6 @@
 // Tests of the script language, line by line.
+#![tactic(auto)]
+
 #[cfg(test)]
 mod answers;
 #[cfg(test)]

@@ -1,4 +1,6 @@
 // Tests of byte tables through what every drawing tells. The expected answers are worked out from the rules of the format.
+#![tactic(auto)]
+
 #[cfg(test)]
 mod asking;
 #[cfg(test)]

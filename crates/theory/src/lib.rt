@@ -1,5 +1,7 @@
 // The general theory of what a transition system reaches, and of counting by lists without repetition. Each function
 // answers 0 and stands for a theorem, its contract, so that no check passes without the theorem's proof.
+#![tactic(auto)]
+
 ghost use Rattle.theory.specs.Statements.{CertificatesAreSound, FalsifyingRunsAreSound, RepeatsCanBeCut, CountsAreUnique, EvidenceAlwaysExists, SimulationsKeepRuns, EnumerationsAreExact};
 
 pub fn certificates_are_sound() -> u8

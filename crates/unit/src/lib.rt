@@ -1,4 +1,6 @@
 // Units: a drawing that was sealed, and what is kept beside it from call to call.
+#![tactic(auto)]
+
 mod claims;
 mod kept;
 mod phase;

@@ -1,4 +1,6 @@
 // Tests of sealing. The expected verdicts are worked out by hand from the rules.
+#![tactic(auto)]
+
 #[cfg(test)]
 mod parts;
 #[cfg(test)]

@@ -1,5 +1,7 @@
 // What units are and what they promise: definitions and their theory. Each function here answers 0, and exists so that
 // its contract names a theorem: the gate then asks for the proof.
+#![tactic(auto)]
+
 ghost use Rattle.units.specs.Promises.{CertificatesAreJudgedRightly, RunsAreJudgedRightly, AcceptedCertificatesHold, AcceptedRunsBreak, EvidenceExistsForEveryTest, TheCountIsUnique, ChoicesDependOnWhatTheySee};
 
 pub fn certificates_are_judged_rightly() -> u8

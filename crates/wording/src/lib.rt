@@ -1,4 +1,6 @@
 // What is told of drawings, in numbers for programs and in words for people.
+#![tactic(auto)]
+
 mod ask;
 mod facts;
 mod opening;

@@ -1,4 +1,6 @@
 // Runs a script: reads it, and prints an answer for each line that asks for something.
+#![tactic(auto)]
+
 use commands::{FileBytes, Mistake};
 use sessions::Session;
 use std::fs::File;
