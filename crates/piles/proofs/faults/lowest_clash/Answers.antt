@@ -8,11 +8,11 @@ loop-name-init g c = lowest_none (clashes (g.L.Outline.outline c.args.left.now) 
 
 pub loop-name-preserved : goal.loop-name-preserved
 loop-name-preserved g c =
-    lowest_more (clashes (g.L.Outline.outline c.args.left.now) (g.R.Outline.outline c.args.right.now)) c.loop-name.name c.loop-name.invariant (sym c.if-kinds-clash.ensures)
+    lowest_more (clashes (g.L.Outline.outline c.args.left.now) (g.R.Outline.outline c.args.right.now)) c.loop-name.name c.loop-name.invariant (sym c.if-kinds_clash.ensures)
 
-pub returns-then-kinds-clash : goal.returns-then-kinds-clash
-returns-then-kinds-clash g c =
-    sym (lowest_at (clashes (g.L.Outline.outline c.args.left.now) (g.R.Outline.outline c.args.right.now)) 32 c.loop-name.name (omega arith) c.loop-name.invariant (sym c.if-kinds-clash.ensures))
+pub returns-then-kinds_clash : goal.returns-then-kinds_clash
+returns-then-kinds_clash g c =
+    sym (lowest_at (clashes (g.L.Outline.outline c.args.left.now) (g.R.Outline.outline c.args.right.now)) 32 c.loop-name.name (omega arith) c.loop-name.invariant (sym c.if-kinds_clash.ensures))
 
 pub returns : goal.returns
 returns g c =

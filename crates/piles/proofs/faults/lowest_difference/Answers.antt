@@ -8,11 +8,11 @@ loop-name-init g c = lowest_none (differs (g.L.Outline.outline c.args.left.now) 
 
 pub loop-name-preserved : goal.loop-name-preserved
 loop-name-preserved g c =
-    lowest_more (differs (g.L.Outline.outline c.args.left.now) (g.R.Outline.outline c.args.right.now)) c.loop-name.name c.loop-name.invariant (sym c.if-tops-differ.ensures)
+    lowest_more (differs (g.L.Outline.outline c.args.left.now) (g.R.Outline.outline c.args.right.now)) c.loop-name.name c.loop-name.invariant (sym c.if-tops_differ.ensures)
 
-pub returns-then-tops-differ : goal.returns-then-tops-differ
-returns-then-tops-differ g c =
-    sym (lowest_at (differs (g.L.Outline.outline c.args.left.now) (g.R.Outline.outline c.args.right.now)) 32 c.loop-name.name (omega arith) c.loop-name.invariant (sym c.if-tops-differ.ensures))
+pub returns-then-tops_differ : goal.returns-then-tops_differ
+returns-then-tops_differ g c =
+    sym (lowest_at (differs (g.L.Outline.outline c.args.left.now) (g.R.Outline.outline c.args.right.now)) 32 c.loop-name.name (omega arith) c.loop-name.invariant (sym c.if-tops_differ.ensures))
 
 pub returns : goal.returns
 returns g c =

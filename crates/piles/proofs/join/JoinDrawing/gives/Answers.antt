@@ -21,7 +21,7 @@ returns-in-None g c =
     let r = g.R.Drawing.meaning s.right in
     let p = g.met.L.Drawing.agree s.left in
     let q = g.met.R.Drawing.agree s.right in
-    record { told = gives_left l r p q c.requires c.args.round c.args.atom c.args.choice (value c.args.old) (value c.args.new) c.in-None.is c.args.name c.if-atom-self.true (to_z-of_z_to w16 c.gives.result (l.acts.gives c.args.round c.args.atom c.args.choice c.args.name (value c.args.old) (value c.args.new)) (sfits_of c.gives.type-inv) c.gives.ensures.told); agrees = λ i. joined_outline (p i) (q i) }
+    record { told = gives_left l r p q c.requires c.args.round c.args.atom c.args.choice (value c.args.old) (value c.args.new) c.in-None.is c.args.name c.if-atom-self.true (to_z-of_z_to w16 c.gives.result (l.acts.gives c.args.round c.args.atom c.args.choice c.args.name (value c.args.old) (value c.args.new)) (sfits_of c.gives.type_inv) c.gives.ensures.told); agrees = λ i. joined_outline (p i) (q i) }
 
 pub returns-in-None-2 : goal.returns-in-None-2
 returns-in-None-2 g c =
@@ -30,4 +30,4 @@ returns-in-None-2 g c =
     let r = g.R.Drawing.meaning s.right in
     let p = g.met.L.Drawing.agree s.left in
     let q = g.met.R.Drawing.agree s.right in
-    record { told = gives_right l r p q c.requires c.args.round c.args.atom c.args.choice (value c.args.old) (value c.args.new) c.in-None.is c.args.name c.if-atom-self.false (to_z-of_z_to w16 c.gives-in-None-2.result (r.acts.gives c.args.round (c.args.atom - s.left_atoms) c.args.choice c.args.name (value c.args.old) (value c.args.new)) (sfits_of c.gives-in-None-2.type-inv) c.gives-in-None-2.ensures.told); agrees = λ i. joined_outline (p i) (q i) }
+    record { told = gives_right l r p q c.requires c.args.round c.args.atom c.args.choice (value c.args.old) (value c.args.new) c.in-None.is c.args.name c.if-atom-self.false (to_z-of_z_to w16 c.gives-in-None-2.result (r.acts.gives c.args.round (c.args.atom - s.left_atoms) c.args.choice c.args.name (value c.args.old) (value c.args.new)) (sfits_of c.gives-in-None-2.type_inv) c.gives-in-None-2.ensures.told); agrees = λ i. joined_outline (p i) (q i) }

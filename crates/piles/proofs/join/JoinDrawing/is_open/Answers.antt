@@ -20,7 +20,7 @@ returns-in-None g c =
     let r = g.R.Drawing.meaning s.right in
     let p = g.met.L.Drawing.agree s.left in
     let q = g.met.R.Drawing.agree s.right in
-    record { told = opens_left l r p q c.requires c.args.round c.args.atom c.args.choice (value c.args.old) (value c.args.new) c.in-None.is c.if-atom-self.true c.is-open.ensures.told; agrees = λ i. joined_outline (p i) (q i) }
+    record { told = opens_left l r p q c.requires c.args.round c.args.atom c.args.choice (value c.args.old) (value c.args.new) c.in-None.is c.if-atom-self.true c.is_open.ensures.told; agrees = λ i. joined_outline (p i) (q i) }
 
 pub returns-in-None-2 : goal.returns-in-None-2
 returns-in-None-2 g c =
@@ -29,4 +29,4 @@ returns-in-None-2 g c =
     let r = g.R.Drawing.meaning s.right in
     let p = g.met.L.Drawing.agree s.left in
     let q = g.met.R.Drawing.agree s.right in
-    record { told = opens_right l r p q c.requires c.args.round c.args.atom c.args.choice (value c.args.old) (value c.args.new) c.in-None.is c.if-atom-self.false c.is-open-in-None-2.ensures.told; agrees = λ i. joined_outline (p i) (q i) }
+    record { told = opens_right l r p q c.requires c.args.round c.args.atom c.args.choice (value c.args.old) (value c.args.new) c.in-None.is c.if-atom-self.false c.is_open-in-None-2.ensures.told; agrees = λ i. joined_outline (p i) (q i) }
