@@ -1,5 +1,5 @@
 -- What is told where there is a fault, and where there is none. Assumes nothing.
-use Rattle.std.proofs.Common.{◌≡◌, Some, None, Option, sym, refl, ap, ◌∙◌, subst}
+use Rattle.std.proofs.Common.{◌≡◌, Some, None, Option, sym, ap, ◌∙◌}
 use Rattle.model.specs.declared.Fault.{Fault}
 use Rattle.composition.specs.Outlines.{sound_or}
 

@@ -47,3 +47,13 @@ pub record Hiding (m : Meaning) (n : ℕ) : Type 0 where
 
 abbrev pub HidesPart : Meaning → ℕ → Type 0
 HidesPart m n = fault_of_hidden m.outline n ≡ None → Hiding m n
+
+-- The same of all joins, renames and hides.
+abbrev pub JoinsAreMadeOfParts : Type 0
+JoinsAreMadeOfParts = (l r : Meaning) → JoinsParts l r
+
+abbrev pub RenamesAreMadeOfParts : Type 0
+RenamesAreMadeOfParts = (m : Meaning) (a b : ℕ) → RenamesPart m a b
+
+abbrev pub HidesAreMadeOfParts : Type 0
+HidesAreMadeOfParts = (m : Meaning) (n : ℕ) → HidesPart m n

@@ -3,6 +3,7 @@
 #![tactic(auto)]
 
 ghost use Rattle.reactive.specs.Statements.{FitExactlyWhenAModuleWithinLimits, StatesAreThePublishedOnes, JoinsAreCompositions, RenamesAreRenamings, HidesAreHidings, OperationsAreJudgedRightly, FitUnitsHaveAnOrder, FitUnitsCompleteEveryRound, FitUnitsHaveAnInitialState};
+ghost use Rattle.reactive.specs.Piles.{JoinsAreMadeOfParts, RenamesAreMadeOfParts, HidesAreMadeOfParts};
 
 pub fn fit_units_are_modules() -> u8
     ensures { FitExactlyWhenAModuleWithinLimits }
@@ -54,6 +55,24 @@ pub fn fit_units_complete_every_round() -> u8
 
 pub fn fit_units_have_an_initial_state() -> u8
     ensures { FitUnitsHaveAnInitialState }
+{
+    0
+}
+
+pub fn joins_are_made_of_parts() -> u8
+    ensures { JoinsAreMadeOfParts }
+{
+    0
+}
+
+pub fn renames_are_made_of_parts() -> u8
+    ensures { RenamesAreMadeOfParts }
+{
+    0
+}
+
+pub fn hides_are_made_of_parts() -> u8
+    ensures { HidesAreMadeOfParts }
 {
     0
 }

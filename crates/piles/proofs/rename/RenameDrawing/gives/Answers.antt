@@ -29,10 +29,10 @@ returns-in-None-clause-told g c =
     let name_below = exchange s.old s.new c.args.name in
     let gives : ℕ → Valuation → Valuation → ℤ = m.acts.gives c.args.round c.args.atom c.args.choice in
     let given =
-        to_z-of_z_to w16 c.gives.result (gives c.exchanged-name.result (value c.exchanged_state-old.result) (value c.exchanged_state-new.result)) (sfits_of c.gives.type_inv) c.gives.ensures.told in
+    to_z-of_z_to w16 c.gives.result (gives c.exchanged-name.result (value c.exchanged_state-old.result) (value c.exchanged_state-new.result)) (sfits_of c.gives.type_inv) c.gives.ensures.told in
     all_told (c.requires.judged ∙ sym (ap (λ o. fault_of_renamed o s.old s.new) p)) (pos 0) c.in-None.is
     (
-      given ∙ ap (λ n. gives n (value c.exchanged_state-old.result) (value c.exchanged_state-new.result)) c.exchanged-name.ensures
-      ∙ ap (λ v. gives name_below v (value c.exchanged_state-new.result)) c.exchanged_state-old.ensures
-      ∙ ap (gives name_below old_below) c.exchanged_state-new.ensures
+    given ∙ ap (λ n. gives n (value c.exchanged_state-old.result) (value c.exchanged_state-new.result)) c.exchanged-name.ensures
+    ∙ ap (λ v. gives name_below v (value c.exchanged_state-new.result)) c.exchanged_state-old.ensures
+    ∙ ap (gives name_below old_below) c.exchanged_state-new.ensures
     )
