@@ -10,7 +10,6 @@ use Rattle.commands.specs.Words.{Words}
 use Rattle.commands.specs.declared.command.Command.{Command}
 use Rattle.commands.specs.declared.command.Command.TheVariants.{New, Table, Gates, Join, Rename, Hide, Seal, Verdict, Outline, Ask}
 use Rattle.commands.specs.Verbs.{verb_of, words_wanted}
-use Rattle.commands.specs.declared.verb.Verb.TheVariants as Verb
 use Rattle.commands.specs.declared.verb.Verb.{Verb}
 use Rattle.commands.specs.declared.mistake.Mistake.{Mistake}
 use Rattle.commands.specs.declared.mistake.Mistake.TheVariants.{UnknownCommand, MissingWord, SuperfluousWord, BadRound, NoMemory}

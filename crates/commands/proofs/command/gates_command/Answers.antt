@@ -2,4 +2,4 @@ use Rattle.std.proofs.Common.{sym, refl, rules}
 use Rattle.commands.proofs.command.gates_command.Goals as goal
 
 pub returns : goal.returns
-returns c = record { verb = refl; count = search rules; words = (sym c.in-ok-from-str.ensures.ok, c.in-ok-read.ensures) }
+returns c = record { verb = refl; count = search rules; words = (sym c.in_ok-from_str.ensures.ok, c.in_ok-read.ensures) }
