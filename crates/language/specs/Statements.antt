@@ -1,5 +1,5 @@
 -- The theorems of this crate. Assumes nothing.
-use Rattle.std.specs.Prelude.{◌≡◌, ℕ, ◌+◌, ◌<◌, ◌≤◌, true, false, List, [], ◌∷◌, ◌++◌, length, take, drop, set, replicate, ℤ, pos, negsuc, ◌≤ℤ◌, ◌<ℤ◌, Some, None, Decides, Option, ◌≢◌, slice_set}
+use Rattle.std.specs.Prelude.{◌≡◌, ℕ, ◌+◌, ◌<◌, ◌≤◌, true, false, List, [], ◌∷◌, ◌++◌, length, take, drop, replicate, ℤ, pos, negsuc, ◌≤ℤ◌, ◌<ℤ◌, Some, None, Decides, Option, ◌≢◌, slice_set}
 use Rattle.model.specs.Meanings.{Valuation, Bytes}
 use Rattle.model.specs.declared.Fault.{Fault}
 use Rattle.language.specs.ExpressionLaws.{Agree}

@@ -1,5 +1,5 @@
 -- Rows of marks. Assumes nothing.
-use Rattle.std.proofs.Common.{◌≡◌, ℕ, zero, suc, Bool, false, get_or, replicate, refl}
+use Rattle.std.proofs.Common.{◌≡◌, ℕ, zero, suc, false, get_or, replicate, refl}
 
 -- a row without a mark
 pub unmarked : (k n : ℕ) → get_or (replicate k false) n false ≡ false

@@ -1,5 +1,5 @@
 -- Sets of names. Assumes nothing.
-use Rattle.std.specs.Prelude.{ℕ, Bool, true, false, ◌&&◌, ◌==◌, nat_lt, slice_index_or}
+use Rattle.std.specs.Prelude.{ℕ, Bool, false, ◌&&◌, ◌==◌, nat_lt, slice_index_or}
 use Rattle.model.specs.declared.names.Names.{Names}
 
 -- is the name in the set

@@ -1,5 +1,5 @@
 -- States of a module, its initial states and successors, trajectories. Assumes nothing.
-use Rattle.std.specs.Prelude.{◌≡◌, ℕ, ◌<◌, Bool, true, false, cond, ◌&&◌, List, [], ◌∷◌, length, replicate, ℤ, pos, negsuc, ◌==◌, nat_le, slice_index}
+use Rattle.std.specs.Prelude.{◌≡◌, ℕ, Bool, true, false, ◌&&◌, List, [], ◌∷◌, length, replicate, ℤ, pos, negsuc, ◌==◌, nat_le, slice_index}
 use Rattle.model.specs.Meanings.{Valuation, OutlineFacts, Meaning}
 use Rattle.model.specs.Tests.{every, some, implies}
 use Rattle.model.specs.declared.Round.{Round}

@@ -1,19 +1,18 @@
 -- Joins, renames and hides are the published operations on what they are made of. Assumes nothing.
-use Rattle.std.proofs.Common.{◌≡◌, ℕ, true, ◌↔◌, List, None, sym, ap, ◌∙◌, subst}
+use Rattle.std.proofs.Common.{◌≡◌, ℕ, List, None, sym, ap, ◌∙◌}
 use Rattle.composition.proofs.Hiding.{yields_hidden}
 use Rattle.composition.proofs.Joining.{yields_joined}
 use Rattle.composition.proofs.Renaming.{yields_renamed, renamed_back}
 use Rattle.composition.proofs.Reordering.{swaps, regroups}
 use Rattle.composition.proofs.Views.{projected_nothing, exchanged_nothing}
 use Rattle.composition.specs.FaultLaws.{renames}
-use Rattle.composition.specs.Faults.{fault_of_renamed, fault_of_hidden, fault_of_joined}
-use Rattle.composition.specs.Meanings.{renamed, hidden}
+use Rattle.composition.specs.Faults.{fault_of_joined}
 use Rattle.composition.specs.Views.{projected, exchanged}
 use Rattle.model.specs.Meanings.{Meaning}
-use Rattle.model.specs.States.{yields, nothing, InitialState, Successor}
+use Rattle.model.specs.States.{yields, nothing}
 use Rattle.model.specs.declared.Round.TheVariants.{Initial, Update}
 use Rattle.reactive.proofs.Operations.{joins_are, renames_are, hides_are}
-use Rattle.reactive.specs.Piles.{Composition, JoinsParts, Renaming, RenamesPart, Hiding, HidesPart}
+use Rattle.reactive.specs.Piles.{Composition, JoinsParts, RenamesPart, HidesPart}
 
 -- the old values that a part sees in an initialization round are none
 part_initial : (m : Meaning) (t : List ℕ) → yields m Initial (projected m.outline nothing) t ≡ yields m Initial nothing t

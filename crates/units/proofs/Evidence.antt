@@ -1,8 +1,8 @@
 -- Certificates and runs are accepted exactly when they show what they have to. Assumes nothing.
-use Rattle.std.proofs.Common.{◌≡◌, ℕ, zero, suc, ◌+◌, ◌-◌, ◌<◌, ◌≤◌, Bool, true, false, not, ◌&&◌, ◌⊎◌, List, [], ◌∷◌, length, get_or, Some, None, Option, sym, refl, ap, ◌∙◌, subst, inl, inr, ⊎_elim, not-suc-le-zero, add-one, arith}
-use Rattle.std.proofs.lemmas.Bool.{and_from, and_parts, and_cases, both_ways, cases_Bool, not-true, not-false, not_from_true, not_from_false}
+use Rattle.std.proofs.Common.{◌≡◌, ℕ, zero, suc, ◌+◌, ◌-◌, ◌<◌, Bool, true, false, not, ◌&&◌, List, [], ◌∷◌, length, Some, None, Option, sym, refl, ap, ◌∙◌, subst, inl, inr, ⊎_elim, not-suc-le-zero, add-one, arith}
+use Rattle.std.proofs.lemmas.Bool.{and_cases, both_ways, not-false, not_from_true}
 use Rattle.model.specs.Meanings.{Meaning}
-use Rattle.model.specs.States.{value, is_state, yields, nothing, InitialState, Successor, Continues, Trajectory, Ends}
+use Rattle.model.specs.States.{is_state, yields, nothing, Continues, Ends}
 use Rattle.model.specs.Tests.{lowest}
 use Rattle.model.specs.declared.Fault.{Fault}
 use Rattle.model.specs.declared.Round.{Round}
@@ -11,9 +11,8 @@ use Rattle.model.proofs.Lowest.{lowest_clear, clear_lowest}
 use Rattle.model.proofs.States.{yields_parts}
 use Rattle.theory.specs.Members.{Member}
 use Rattle.units.specs.Accepted.{Certificate, BreakingRun}
-use Rattle.units.specs.Counting.{any}
 use Rattle.units.specs.Evidence.{state_at, all_states, lists, misses, foreign_state, certificate_refusal, later, if_so_at, run_refusal}
-use Rattle.units.specs.Sealing.{refusal, at_lowest, if_so, ◌else◌}
+use Rattle.units.specs.Sealing.{at_lowest, if_so, ◌else◌}
 use Rattle.units.proofs.Listed.{none_passes, all_fail, lists_parts, lists_from, member_at, index_of, all_states_exact}
 
 -- refusals one after the other

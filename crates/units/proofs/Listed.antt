@@ -1,16 +1,14 @@
 -- Tests over lists, and the list of all states. Assumes nothing.
-use Rattle.std.proofs.Common.{◌≡◌, ℕ, zero, suc, ◌+◌, ◌<◌, ◌≤◌, Bool, true, false, not, ◌&&◌, ◌||◌, eqb, ◌⊎◌, List, [], ◌∷◌, map, length, get_or, Some, None, Option, sym, refl, ap, ◌∙◌, subst, ap₂, inl, inr, ⊎_elim, le_of_suc-le-suc, not-suc-le-zero, zero-add, arith}
+use Rattle.std.proofs.Common.{◌≡◌, ℕ, zero, suc, ◌<◌, ◌≤◌, Bool, true, false, eqb, ◌⊎◌, List, [], ◌∷◌, map, length, get_or, sym, refl, ap, ◌∙◌, subst, ap₂, inl, inr, ⊎_elim, le_of_suc-le-suc, not-suc-le-zero, zero-add, arith}
 use Rattle.std.proofs.lemmas.List.FromFn.{get_or-range_with_len}
 use Rattle.std.proofs.lemmas.List.{length-map, get_or-map}
-use Rattle.std.proofs.lemmas.Bool.{and_from, and_parts, or_left, or_right, or_cases, eq-eqb, eqb-true, both_ways, not-true, cases_Bool, not_from_false}
+use Rattle.std.proofs.lemmas.Bool.{and_from, and_parts, or_left, or_right, or_cases, eq-eqb, eqb-true, both_ways, cases_Bool}
 use Rattle.model.specs.Meanings.{OutlineFacts}
 use Rattle.model.specs.States.{value, is_state}
-use Rattle.model.specs.Tests.{lowest}
-use Rattle.model.proofs.Bounded.{lowest_at}
 use Rattle.model.proofs.States.{state_parts, state_from}
-use Rattle.theory.specs.Enumerations.{below, ranges, Within}
+use Rattle.theory.specs.Enumerations.{below}
 use Rattle.theory.specs.Members.{Member, Exactly}
-use Rattle.theory.proofs.Enumerations.{ranges_exact, below_exact, length_below}
+use Rattle.theory.proofs.Enumerations.{ranges_exact, length_below}
 use Rattle.units.specs.Counting.{any, same}
 use Rattle.units.specs.Evidence.{all_states, lists}
 

@@ -1,5 +1,5 @@
 -- What evidence is worth. Assumes nothing.
-use Rattle.std.proofs.Common.{◌≡◌, ℕ, ◌<◌, ◌≤◌, Bool, true, false, List, [], ◌∷◌, length, None, filter, sym, refl, ap, ◌∙◌, subst, arith}
+use Rattle.std.proofs.Common.{◌≡◌, ℕ, ◌≤◌, Bool, true, List, [], ◌∷◌, length, refl, subst, arith}
 use mathlib.Core.List.{List-discrete}
 use native.Mathlib.Decide.{ℕ_discrete}
 use Rattle.std.proofs.lemmas.Bool.{both_ways}
@@ -18,8 +18,8 @@ use Rattle.theory.proofs.Evidence.{list_certifies, short_run}
 use Rattle.theory.proofs.Members.{count_unique, kept_exact, distinct_kept}
 use Rattle.theory.proofs.Runs.{certificate_sound}
 use Rattle.units.specs.Accepted.{Certificate, BreakingRun}
-use Rattle.units.specs.Evidence.{certificate_refusal, run_refusal, all_states, choice_rows, led_by, outcomes}
-use Rattle.units.specs.Promises.{CertificatesAreJudgedRightly, RunsAreJudgedRightly, AcceptedCertificatesHold, AcceptedRunsBreak, EvidenceFor, EvidenceExistsForEveryTest, Yielding, TheCountIsUnique, ChoicesDependOnWhatTheySee}
+use Rattle.units.specs.Evidence.{all_states, choice_rows, led_by, outcomes}
+use Rattle.units.specs.Promises.{CertificatesAreJudgedRightly, RunsAreJudgedRightly, AcceptedCertificatesHold, AcceptedRunsBreak, EvidenceExistsForEveryTest, Yielding, TheCountIsUnique, ChoicesDependOnWhatTheySee}
 use Rattle.units.proofs.Evidence.{certificate_accepted, certificate_accepts, run_accepted, run_accepts}
 use Rattle.units.proofs.Listed.{all_states_exact}
 

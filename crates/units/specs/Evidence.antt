@@ -1,5 +1,5 @@
 -- Certificates and runs: the conditions under which each is accepted, and the count. Assumes nothing.
-use Rattle.std.specs.Prelude.{ℕ, ◌+◌, ◌-◌, ◌*◌, ◌/◌, ◌%◌, Bool, true, false, cond, not, ◌&&◌, ◌||◌, List, [], ◌∷◌, map, length, take, drop, Some, None, filter, Option, ◌==◌, nat_lt, slice_index, slice_index_or}
+use Rattle.std.specs.Prelude.{ℕ, ◌+◌, ◌-◌, ◌*◌, ◌/◌, ◌%◌, Bool, true, false, not, ◌&&◌, ◌||◌, List, [], map, length, take, drop, Some, None, filter, Option, ◌==◌, nat_lt, slice_index, slice_index_or}
 use Rattle.model.specs.Meanings.{OutlineFacts, Meaning}
 use Rattle.model.specs.States.{value, is_state, takes, yields, nothing}
 use Rattle.model.specs.Tests.{every, lowest}

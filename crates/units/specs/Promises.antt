@@ -1,18 +1,15 @@
 -- The promises. Each is named after what it says; a function's contract names it, and so the gate asks for its proof.
 -- Assumes nothing.
-use Rattle.std.specs.Prelude.{◌≡◌, ℕ, ◌*◌, ◌≤◌, Bool, true, false, ◌⊎◌, ◌↔◌, List, length, Some, None, Option, ◌≢◌}
+use Rattle.std.specs.Prelude.{◌≡◌, ℕ, ◌*◌, ◌≤◌, Bool, true, false, ◌↔◌, List, length, Some, None, ◌≢◌}
 use Rattle.std.specs.List.{slice_get}
-use Rattle.composition.specs.Faults.{fault_of_renamed, fault_of_hidden, fault_of_joined}
-use Rattle.composition.specs.Meanings.{renamed, hidden, joined}
 use Rattle.model.specs.Meanings.{Valuation, Meaning, Alike}
-use Rattle.model.specs.States.{value, is_state, takes, InitialState, Successor, Trajectory, Ends, Reachable, nothing}
+use Rattle.model.specs.States.{is_state, Reachable}
 use Rattle.model.specs.declared.Round.{Round}
 use Rattle.theory.specs.Members.{Member, Distinct, Exactly}
 use Rattle.units.specs.Accepted.{Certificate, BreakingRun}
-use Rattle.units.specs.Evidence.{certificate_refusal, run_refusal, certificate_count, outcomes, choice_rows, led_by, all_states}
+use Rattle.units.specs.Evidence.{certificate_refusal, run_refusal, outcomes, choice_rows, led_by}
 use Rattle.units.specs.Life.{Came}
-use Rattle.units.specs.Sealing.{Fit}
-use Rattle.units.specs.Units.{UnitModel, Claim, Mark, held, broken, holds, stands, verdict_of, certify_refusal, refute_refusal}
+use Rattle.units.specs.Units.{UnitModel, Claim, held, broken, holds, stands, verdict_of, certify_refusal, refute_refusal}
 
 -- Evidence
 

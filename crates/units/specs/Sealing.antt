@@ -1,6 +1,5 @@
 -- What sealing judges of a drawing. Each check is made over all names or atoms before the next one. Assumes nothing.
 use Rattle.std.specs.Prelude.{◌≡◌, ℕ, zero, suc, ◌+◌, ◌*◌, max, Bool, true, false, cond, not, ◌&&◌, ◌||◌, List, map, ℤ, pos, negsuc, Some, None, Option, ◌==◌, nat_le, nat_lt}
-use Rattle.std.specs.Option.{option_or}
 use Rattle.model.specs.Meanings.{OutlineFacts, Meaning}
 use Rattle.model.specs.States.{value}
 use Rattle.model.specs.Tests.{some, lowest}
