@@ -5,7 +5,7 @@ use Rattle.std.proofs.lemmas.Bool.{lt-ltb, le-ltb, cond-true, eq-eqb}
 use Rattle.model.specs.Tests.{some, lowest}
 use Rattle.model.proofs.Bounded.{lowest_at}
 use Rattle.gates.specs.Drawn.{listed_few}
-use Rattle.gates.specs.GateLists.{Opened, gate_at, parts_upto, breaks, same_out, same_own, is_latch, fault_place, first_record, faulty, opened, opened_at}
+use Rattle.gates.specs.GateLists.{gate_at, parts_upto, breaks, same_out, same_own, is_latch, fault_place, first_record, faulty, opened, opened_at}
 use Rattle.gates.specs.Gates.{gate_of, parts_of}
 use Rattle.gates.specs.OpenedLaws.{parts_more, keeps_rules}
 use Rattle.gates.specs.Readings.{Judged}

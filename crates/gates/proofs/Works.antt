@@ -1,13 +1,13 @@
 -- A gate list's initial states and successors are those in which its gates have worked. Assumes nothing.
-use Rattle.std.proofs.Common.{◌≡◌, ℕ, zero, suc, ◌/◌, ◌<◌, ◌≤◌, Bool, true, false, cond, eqb, ltb, ◌↔◌, List, [], ◌∷◌, length, pos, is_some, Some, None, Option, sym, refl, ap, ◌∙◌, subst, arith}
+use Rattle.std.proofs.Common.{◌≡◌, ℕ, zero, suc, ◌/◌, ◌<◌, ◌≤◌, true, false, cond, eqb, ltb, ◌↔◌, List, [], ◌∷◌, length, pos, is_some, Some, None, Option, sym, refl, ap, ◌∙◌, subst, arith}
 use Rattle.std.proofs.lemmas.Bool.{and_parts, eqb-true, ltb-true, cond-true}
 use Rattle.std.specs.List.{AllByRecursion as All, slice_get}
 use Rattle.model.specs.Meanings.{Valuation, Meaning}
-use Rattle.model.specs.States.{value, is_state, yields, takes, nothing, InitialState, Successor}
+use Rattle.model.specs.States.{value, is_state, yields, nothing, InitialState, Successor}
 use Rattle.model.specs.declared.Kind.{Kind}
 use Rattle.model.specs.declared.Round.{Round}
 use Rattle.model.specs.declared.Round.TheVariants.{Initial, Update}
-use Rattle.model.proofs.States.{StateOf, state_parts, Taken, takes_parts, takes_from, yields_parts, yields_from}
+use Rattle.model.proofs.States.{state_parts, Taken, takes_parts, takes_from, yields_parts, yields_from}
 use Rattle.gates.specs.Behaviour.{Works, GatesWork, gates_of}
 use Rattle.gates.specs.Drawn.{meaning_of, listed_few}
 use Rattle.gates.specs.GateLists.{Opened, opened, opened_at, fault_place, parts_upto}

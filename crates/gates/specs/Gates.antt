@@ -1,5 +1,5 @@
 -- Gates and the atoms that they are made of. Assumes nothing.
-use Rattle.std.specs.Prelude.{ℕ, Bool, true, false, cond, not, ◌&&◌, ◌||◌, List, [], ◌∷◌, Some, None, Option, ◌==◌, nat_lt}
+use Rattle.std.specs.Prelude.{ℕ, Bool, true, false, cond, ◌&&◌, ◌||◌, List, [], ◌∷◌, Some, None, Option, ◌==◌, nat_lt}
 use Rattle.model.specs.Meanings.{Valuation}
 use Rattle.model.specs.Sets.{is_name}
 use Rattle.model.specs.declared.Round.{Round}

@@ -1,5 +1,5 @@
 -- What a gate list means. Assumes nothing.
-use Rattle.std.specs.Prelude.{◌≡◌, ℕ, ◌≤◌, Bool, true, false, cond, List, length, ℤ, pos, is_some, Some, None, Option}
+use Rattle.std.specs.Prelude.{ℕ, Bool, false, cond, List, length, ℤ, pos, is_some, Some, None, Option}
 use Rattle.std.specs.List.{slice_get}
 use Rattle.model.specs.Meanings.{Valuation, OutlineFacts, ChoiceFacts}
 use Rattle.model.specs.declared.Kind.{Kind}

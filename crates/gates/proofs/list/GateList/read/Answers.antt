@@ -1,8 +1,7 @@
-use Rattle.std.proofs.Common.{◌≡◌, suc, ◌+◌, ◌*◌, ◌/◌, ◌<◌, ◌≤◌, length, drop, Some, None, sym, refl, ap, ◌∙◌, subst, add-one, arith, rules}
+use Rattle.std.proofs.Common.{◌≡◌, ◌+◌, ◌*◌, ◌/◌, ◌<◌, ◌≤◌, length, drop, None, sym, refl, ap, ◌∙◌, add-one, arith, rules}
 use Rattle.std.proofs.lemmas.List.{length-drop, drop-drop, take_rest}
-use Rattle.gates.specs.GateLists.{breaks, parts_upto, opened_at, opened}
-use Rattle.model.specs.Tests.{lowest}
-use Rattle.model.proofs.Bounded.{lowest_none, lowest_more, lowest_at}
+use Rattle.gates.specs.GateLists.{breaks, parts_upto}
+use Rattle.model.proofs.Bounded.{lowest_none, lowest_more}
 use Rattle.gates.specs.OpenedLaws.{parts_none}
 use Rattle.gates.proofs.Opening.{gate_dropped, fault_found, no_fault, grows}
 use Rattle.gates.proofs.list.GateList.read.Goals as goal
@@ -23,14 +22,14 @@ judge-requires c =
       earlier = inv.2;
     }
 
-pub returns-in-default-judge : goal.returns-in-default-judge
-returns-in-default-judge c =
+pub returns-in_default-judge : goal.returns-in_default-judge
+returns-in_default-judge c =
     let bs = c.args.bytes.now in
     let i = c.loop-rest.index in
     let inv = c.loop-rest.invariant in
     let five : 5 ≤ length c.loop-rest.rest.now = search rules in
     let more : 5 * i + 5 ≤ length bs = omega (arith, length-drop (5 * i) bs, ap length inv.1, five) in
-    c.faulty-in-default-judge.ensures ∙ fault_found bs i c.if-bytes-ne0.false more inv.3 c.in-default-judge.ensures
+    c.faulty-in_default-judge.ensures ∙ fault_found bs i c.if-bytes-ne0.false more inv.3 c.in_default-judge.ensures
 
 pub loop-rest-preserved : goal.loop-rest-preserved
 loop-rest-preserved c =

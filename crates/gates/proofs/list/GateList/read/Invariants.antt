@@ -1,4 +1,4 @@
-use Rattle.std.proofs.Common.{◌≡◌, ◌*◌, ◌≤◌, false, length, drop, None}
+use Rattle.std.proofs.Common.{◌≡◌, ◌*◌, ◌≤◌, length, drop, None}
 use Rattle.gates.specs.GateLists.{breaks, parts_upto}
 use Rattle.gates.specs.Rows.{listed}
 use Rattle.model.specs.Tests.{lowest}

@@ -7,11 +7,11 @@ pub loop-k-init : goal.loop-k-init
 loop-k-init c = some_none (same_own c.args.bytes.now c.args.index)
 
 pub loop-k-preserved : goal.loop-k-preserved
-loop-k-preserved c = some_more (same_own c.args.bytes.now c.args.index) c.loop-k.k c.loop-k.invariant (sym c.if-shares-own.ensures)
+loop-k-preserved c = some_more (same_own c.args.bytes.now c.args.index) c.loop-k.k c.loop-k.invariant (sym c.if-shares_own.ensures)
 
-pub returns-then-shares-own : goal.returns-then-shares-own
-returns-then-shares-own c =
-    sym (some_at (same_own c.args.bytes.now c.args.index) (length c.args.bytes.now) c.loop-k.k c.loop-k-test.true (sym c.if-shares-own.ensures))
+pub returns-then-shares_own : goal.returns-then-shares_own
+returns-then-shares_own c =
+    sym (some_at (same_own c.args.bytes.now c.args.index) (length c.args.bytes.now) c.loop-k.k c.loop-k-test.true (sym c.if-shares_own.ensures))
 
 pub returns : goal.returns
 returns c =

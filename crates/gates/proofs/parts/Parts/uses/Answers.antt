@@ -1,7 +1,5 @@
-use Rattle.std.proofs.Common.{◌≡◌, ◌<◌, ◌≤◌, length, take, sym, ap, ◌∙◌, arith}
-use Rattle.gates.specs.Gates.{used}
+use Rattle.std.proofs.Common.{◌≡◌, sym, arith}
 use Rattle.gates.specs.declared.gate.Part.TheVariants.{Inverter}
-use Rattle.std.proofs.lemmas.List.{get_or-take, length-take-le, take_all}
 use Rattle.gates.proofs.PartRows.{unused_more, used_within}
 use Rattle.gates.proofs.parts.Parts.uses.Goals as goal
 
