@@ -1,6 +1,6 @@
 -- How gates behave, in the words of an electrician: what each gate's wires show after a round. Assumes nothing.
 use Rattle.std.specs.Prelude.{◌≡◌, ℕ, ◌/◌, true, ◌↔◌, List, length, None}
-use Rattle.std.specs.List.{AllByRecursion as All}
+use Rattle.std.specs.List.{AllByRecursion}
 use Rattle.model.specs.Meanings.{Valuation, Meaning}
 use Rattle.model.specs.States.{value, is_state, InitialState, Successor, nothing}
 use Rattle.model.specs.declared.Round.{Round}
@@ -54,5 +54,5 @@ gates_of bs = gates_upto bs (length bs / 5)
 -- For a list without fault, the initial states and the successors of a state are those states of the module in which
 -- every gate has worked.
 pub record GatesWork (bs : List ℕ) (m : Meaning) : Type 0 where
-  pub initially : fault_place bs ≡ None → (t : List ℕ) → InitialState m t ↔ ((is_state m.outline t ≡ true) × All (Works Initial (value nothing) (value t)) (gates_of bs))
-  pub later : fault_place bs ≡ None → (s t : List ℕ) → Successor m s t ↔ ((is_state m.outline t ≡ true) × All (Works Update (value s) (value t)) (gates_of bs))
+  pub initially : fault_place bs ≡ None → (t : List ℕ) → InitialState m t ↔ ((is_state m.outline t ≡ true) × AllByRecursion (Works Initial (value nothing) (value t)) (gates_of bs))
+  pub later : fault_place bs ≡ None → (s t : List ℕ) → Successor m s t ↔ ((is_state m.outline t ≡ true) × AllByRecursion (Works Update (value s) (value t)) (gates_of bs))
