@@ -1,5 +1,5 @@
 -- Two characters that spell no byte. Assumes nothing.
-use Rattle.std.proofs.Common.{◌≡◌, ℕ, ◌+◌, ◌*◌, ◌<◌, List, length, get_or, Some, None, Option, sym, refl, ◌∙◌, arith}
+use Rattle.std.proofs.Common.{◌≡◌, ℕ, ◌<◌, List, length, get_or, Some, None, Option, refl, arith}
 use Rattle.script.specs.Hex.{digit_worth, spelt, byte_spelt, Strange}
 
 by_worth : (text : List ℕ) (i j : ℕ) (h l : Option ℕ) → digit_worth (get_or text i 0) ≡ h → digit_worth (get_or text j 0) ≡ l → i < length text → j < length text → spelt h l ≡ None → Strange text

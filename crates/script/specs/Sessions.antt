@@ -8,7 +8,6 @@ use Rattle.script.specs.Things.{Nothing, Puts, Same}
 use Rattle.script.specs.Words.{Words}
 use Rattle.script.specs.declared.command.Command.{Command}
 use Rattle.script.specs.declared.command.Command.TheVariants.{New, Gates, Outline, Ask}
-use Rattle.script.specs.declared.made.Made as Made
 use Rattle.script.specs.declared.made.Made.{Made}
 use Rattle.script.specs.declared.mistake.Mistake.{Mistake}
 use Rattle.script.specs.declared.things.Things.{Things}

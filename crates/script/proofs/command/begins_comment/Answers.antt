@@ -1,4 +1,4 @@
-use Rattle.std.proofs.Common.{◌≡◌, ℕ, ◌≤◌, false, ltb, List, [], ◌∷◌, length, refl, arith, rules}
+use Rattle.std.proofs.Common.{◌≡◌, ℕ, ◌≤◌, ltb, List, [], ◌∷◌, length, refl, arith, rules}
 use Rattle.script.specs.Commands.{begins_comment}
 use Rattle.script.proofs.command.begins_comment.Goals as goal
 
@@ -7,4 +7,4 @@ empty [] none = refl
 empty (b ∷ w) none = absurd (omega arith)
 
 pub returns-else-bytes-gt0 : goal.returns-else-bytes-gt0
-returns-else-bytes-gt0 c = rw c.as-bytes-bytes.ensures.value (empty c.args.word.now (search rules))
+returns-else-bytes-gt0 c = rw c.as_bytes-bytes.ensures.value (empty c.args.word.now (search rules))

@@ -1,18 +1,17 @@
-use Rattle.std.proofs.Common.{◌≡◌, true, get_or, sym, refl, ap, ◌∙◌, subst, arith, rules}
+use Rattle.std.proofs.Common.{◌≡◌, true, get_or, refl, rules}
 use Rattle.std.proofs.lemmas.Str.Parse.{IsNumeralModel, numerals_by_value, tells_all_ascii_digits, not_in_digits, parse_plain}
 use Rattle.std.specs.Str.Parse.{digits_value}
 use Rattle.std.specs.Str.{all_ascii_digits}
 use Rattle.script.proofs.command.number.Goals as goal
-use Rattle.script.proofs.command.number.Goals.{then-as-bytes-lt1, else-as-bytes-lt1+in-default·}
 
 own : IsNumeralModel (λ ds. all_ascii_digits ds ≡ true) (digits_value 10)
 own = numerals_by_value _ tells_all_ascii_digits
 
 pub returns-in-43 : goal.returns-in-43
 returns-in-43 c =
-    let plus : get_or c.as-bytes.result.now 0 0 ≡ 43 = search rules in
+    let plus : get_or c.as_bytes.result.now 0 0 ≡ 43 = search rules in
     record {
-      reads = λ h. not_in_digits own c.args.word.now 43 h.0 (search rules) 0 h.1 (rw c.as-bytes.ensures.value at plus);
+      reads = λ h. not_in_digits own c.args.word.now 43 h.0 (search rules) 0 h.1 (rw c.as_bytes.ensures.value at plus);
       blames = refl;
     }
 

@@ -1,10 +1,10 @@
-use Rattle.std.proofs.Common.{◌≡◌, get_or, vec_items, sym, refl, ap, ◌∙◌, subst, arith, below_more}
+use Rattle.std.proofs.Common.{get_or, vec_items, sym, refl, subst, arith, below_more}
 use Rattle.script.specs.Told.{DescribesAtom}
 use Rattle.script.proofs.facts.atoms.Goals as goal
 
 pub loop-atom-preserved : goal.loop-atom-preserved
 loop-atom-preserved g c =
-    let pushed = c.in-ok-push.ensures in
+    let pushed = c.in_ok-push.ensures in
     let o = g.D.Outline.outline c.args.drawing.now in
     let acts = (g.D.Drawing.meaning c.args.drawing.now).acts in
     let atom = c.loop-atom.atom in

@@ -13,5 +13,5 @@ by_source (File path) bytes thing loads opens = tt
 
 pub returns : goal.returns
 returns g c =
-    let opens = rw c.as-slice.ensures.value at c.in-ok-gates.ensures in
-    by_source c.args.source c.in-ok-bytes.bytes c.in-ok-gates.field-0 c.in-ok-bytes.ensures opens
+    let opens = rw c.as_slice.ensures.value at c.in_ok-gates.ensures in
+    by_source c.args.source c.in_ok-bytes.bytes c.in_ok-gates.field-0 c.in_ok-bytes.ensures opens
