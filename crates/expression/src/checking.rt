@@ -37,7 +37,7 @@ fn name_end(bytes: &[u8], names: &Names, place: usize) -> Result<usize, usize>
 
 // The place after the number that begins here and nests at most so many levels deep, or that of its first fault.
 fn number_end(bytes: &[u8], seen: &Seen, levels: u8, place: usize) -> Result<usize, usize>
-    ensures { result ≡ read_end (read_number levels (seen_of seen.entry.now) bytes.now place) }
+    ensures { result ≡ read_end (read_number levels (seen_of seen.now) bytes.now place) }
 {
     if levels == 0 {
         return Err(place);
@@ -59,7 +59,7 @@ fn number_end(bytes: &[u8], seen: &Seen, levels: u8, place: usize) -> Result<usi
 
 // The place after the truth that begins here and nests at most so many levels deep, or that of its first fault.
 fn truth_end(bytes: &[u8], seen: &Seen, levels: u8, place: usize) -> Result<usize, usize>
-    ensures { result ≡ read_end (read_truth levels (seen_of seen.entry.now) bytes.now place) }
+    ensures { result ≡ read_end (read_truth levels (seen_of seen.now) bytes.now place) }
 {
     if levels == 0 {
         return Err(place);
@@ -91,8 +91,8 @@ fn to_the_end(bytes: &[u8], end: usize) -> Result<(), usize>
 
 // Are the bytes a right number that sees only these names? Else the place of the first fault.
 pub fn check_number(bytes: &[u8], seen: &Seen) -> Result<(), usize>
-    ensures told { result ≡ checked (expression_fault (whole_number 8 (seen_of seen.entry.now) bytes.now)) }
-    ensures judged { NumberJudged (seen_of seen.entry.now) bytes.now result }
+    ensures told { result ≡ checked (expression_fault (whole_number 8 (seen_of seen.now) bytes.now)) }
+    ensures judged { NumberJudged (seen_of seen.now) bytes.now result }
 {
     let end = number_end(bytes, seen, LEVELS, 0)?;
     to_the_end(bytes, end)
@@ -100,8 +100,8 @@ pub fn check_number(bytes: &[u8], seen: &Seen) -> Result<(), usize>
 
 // Are the bytes a right truth that sees only these names? Else the place of the first fault.
 pub fn check_truth(bytes: &[u8], seen: &Seen) -> Result<(), usize>
-    ensures told { result ≡ checked (expression_fault (whole_truth 8 (seen_of seen.entry.now) bytes.now)) }
-    ensures judged { TruthJudged (seen_of seen.entry.now) bytes.now result }
+    ensures told { result ≡ checked (expression_fault (whole_truth 8 (seen_of seen.now) bytes.now)) }
+    ensures judged { TruthJudged (seen_of seen.now) bytes.now result }
 {
     let end = truth_end(bytes, seen, LEVELS, 0)?;
     to_the_end(bytes, end)

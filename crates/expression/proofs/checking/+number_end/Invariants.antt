@@ -1,4 +1,4 @@
 use Rattle.expression.proofs.checking.+number_end.Given as goal
 
-abbrev pub decreases-number-end : goal.decreases-number-end
-decreases-number-end l = l.levels
+abbrev pub decreases-number_end : goal.decreases-number_end
+decreases-number_end l = l.levels

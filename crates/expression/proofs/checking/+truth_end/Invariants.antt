@@ -1,4 +1,4 @@
 use Rattle.expression.proofs.checking.+truth_end.Given as goal
 
-abbrev pub decreases-truth-end : goal.decreases-truth-end
-decreases-truth-end l = l.levels
+abbrev pub decreases-truth_end : goal.decreases-truth_end
+decreases-truth_end l = l.levels

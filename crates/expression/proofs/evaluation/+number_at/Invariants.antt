@@ -1,4 +1,4 @@
 use Rattle.expression.proofs.evaluation.+number_at.Given as goal
 
-abbrev pub decreases-number-at : goal.decreases-number-at
-decreases-number-at l = l.levels
+abbrev pub decreases-number_at : goal.decreases-number_at
+decreases-number_at l = l.levels

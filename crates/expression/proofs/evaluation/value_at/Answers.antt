@@ -2,5 +2,5 @@ use Rattle.std.proofs.Common.{sym, arith}
 use Rattle.expression.proofs.Steps.{byte_inside}
 use Rattle.expression.proofs.evaluation.value_at.Goals as goal
 
-pub overflow-add-result : goal.overflow-add-result
-overflow-add-result c = omega (arith, byte_inside c.args.bytes.now c.args.place c.in-ok-name.name (sym c.in-ok-name.ensures))
+pub overflow_add-result : goal.overflow_add-result
+overflow_add-result c = omega (arith, byte_inside c.args.bytes.now c.args.place c.in_ok-name.name (sym c.in_ok-name.ensures))

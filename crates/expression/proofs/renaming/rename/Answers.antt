@@ -9,7 +9,7 @@ pub loop-byte-preserved : goal.loop-byte-preserved
 loop-byte-preserved c =
     let inside : c.loop-byte.byte-index < length c.loop-byte.bytes = omega arith in
     elim c.match-next.branch [
-      | in-Operator w ↦ at_operator c.args.a c.args.b c.loop-byte.bytes c.match-next.bytes c.loop-byte.byte-index inside c.loop-byte.next c.match-next.next w.in-Operator.is (ap next_of w.next-is ∙ w.after-operator-next.ensures) w.bytes-is ∙ c.loop-byte.invariant
+      | in-Operator w ↦ at_operator c.args.a c.args.b c.loop-byte.bytes c.match-next.bytes c.loop-byte.byte-index inside c.loop-byte.next c.match-next.next w.in-Operator.is (ap next_of w.next-is ∙ w.after_operator-next.ensures) w.bytes-is ∙ c.loop-byte.invariant
       | in-Constant w ↦ at_constant c.args.a c.args.b c.loop-byte.bytes c.match-next.bytes c.loop-byte.byte-index inside c.loop-byte.next c.match-next.next w.in-Constant.is w.next-is w.bytes-is ∙ c.loop-byte.invariant
       | in-Name w ↦ at_name c.args.a c.args.b c.loop-byte.bytes c.match-next.bytes c.loop-byte.byte-index inside c.loop-byte.next c.match-next.next w.exchanged.result w.in-Name.is w.next-is w.exchanged.ensures w.bytes-is ∙ c.loop-byte.invariant
     ]
