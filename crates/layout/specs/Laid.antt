@@ -1,11 +1,10 @@
 -- How a layout tells where the parts of a table lie. Assumes nothing.
-use Rattle.std.specs.Prelude.{◌≡◌, ℕ, ◌<◌, List, length, Some, None, Option, slice_index, slice_index_or}
+use Rattle.std.specs.Prelude.{◌≡◌, ℕ, List, length, Some, None, slice_index, slice_index_or}
 use Rattle.std.specs.List.{slice_get}
 use Rattle.model.specs.Sets.{has}
-use Rattle.model.specs.declared.Round.{Round}
 use Rattle.model.specs.declared.Round.TheVariants.{Initial, Update}
 use Rattle.language.specs.Expressions.{Seen}
-use Rattle.language.specs.Tables.{TableSyntax, TableAtom, TableChoice, Step, fine, bit, size, seen_in, variable_at, variable_kind, variable_top, read_choice}
+use Rattle.language.specs.Tables.{TableSyntax, TableAtom, TableChoice, fine, bit, size, seen_in, variable_at, variable_kind, variable_top, read_choice}
 use Rattle.layout.specs.declared.parts.AtomLayout.{AtomLayout}
 use Rattle.layout.specs.declared.parts.ChoiceLayout.{ChoiceLayout}
 use Rattle.layout.specs.declared.parts.Layout.{Layout}

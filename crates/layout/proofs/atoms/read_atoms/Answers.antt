@@ -6,19 +6,19 @@ use Rattle.layout.proofs.atoms.read_atoms.Goals as goal
 pub loop-atom-init : goal.loop-atom-init
 loop-atom-init c = (refl, λ vs of. atoms_none c.args.bytes.now vs c.args.count c.args.place _)
 
-pub returns-in-err-found : goal.returns-in-err-found
-returns-in-err-found c =
+pub returns-in_err-found : goal.returns-in_err-found
+returns-in_err-found c =
     λ vs of.
-    let p = err_from_is_err_and c.from-residual.result c.from-residual.ensures.1 in
+    let p = err_from_is_err_and c.from_residual.result c.from_residual.ensures.1 in
     rw (p.1, p.2)
-    (atoms_stop c.args.bytes.now vs c.args.count c.args.place c.loop-atom.atom c.loop-atom.end c.loop-atom.atoms (c.loop-atom.invariant.1 vs of) _ (omega arith) (c.in-err-found.ensures vs of))
+    (atoms_stop c.args.bytes.now vs c.args.count c.args.place c.loop-atom.atom c.loop-atom.end c.loop-atom.atoms (c.loop-atom.invariant.1 vs of) _ (omega arith) (c.in_err-found.ensures vs of))
 
 pub loop-atom-preserved : goal.loop-atom-preserved
 loop-atom-preserved c =
     let inside : c.loop-atom.atom < length c.loop-atom.atoms = omega arith in (
-      length-set c.loop-atom.atoms c.loop-atom.atom c.in-ok-found.found ∙ c.loop-atom.invariant.0,
+      length-set c.loop-atom.atoms c.loop-atom.atom c.in_ok-found.found ∙ c.loop-atom.invariant.0,
       λ vs of.
-          atoms_more c.args.bytes.now vs c.args.count c.args.place c.loop-atom.atom c.loop-atom.end c.loop-atom.atoms (c.loop-atom.invariant.1 vs of) c.in-ok-found.found c.in-ok-found.next (omega arith) inside (c.in-ok-found.ensures vs of),
+          atoms_more c.args.bytes.now vs c.args.count c.args.place c.loop-atom.atom c.loop-atom.end c.loop-atom.atoms (c.loop-atom.invariant.1 vs of) c.in_ok-found.found c.in_ok-found.next (omega arith) inside (c.in_ok-found.ensures vs of),
     )
 
 pub returns : goal.returns

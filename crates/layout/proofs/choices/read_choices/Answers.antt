@@ -7,18 +7,18 @@ use Rattle.layout.proofs.choices.read_choices.Goals as goal
 pub loop-choice-init : goal.loop-choice-init
 loop-choice-init c = choices_none (seen_of c.args.seen.now) c.args.controlled c.args.bytes.now c.args.count c.args.place _ refl
 
-pub returns-in-err-next : goal.returns-in-err-next
-returns-in-err-next c =
-    let p = err_from_is_err_and c.from-residual.result c.from-residual.ensures.1 in
+pub returns-in_err-next : goal.returns-in_err-next
+returns-in_err-next c =
+    let p = err_from_is_err_and c.from_residual.result c.from_residual.ensures.1 in
     rw (p.1, p.2)
-    (choices_stop (seen_of c.args.seen.now) c.args.controlled c.args.bytes.now c.args.count c.args.place c.loop-choice.choice c.loop-choice.end c.loop-choice.places c.loop-choice.invariant _ (omega arith) c.in-err-next.ensures)
+    (choices_stop (seen_of c.args.seen.now) c.args.controlled c.args.bytes.now c.args.count c.args.place c.loop-choice.choice c.loop-choice.end c.loop-choice.places c.loop-choice.invariant _ (omega arith) c.in_err-next.ensures)
 
-pub overflow-cast-places : goal.overflow-cast-places
-overflow-cast-places c = omega (arith, choice_starts (seen_of c.args.seen.now) c.args.controlled c.args.bytes.now c.loop-choice.end c.in-ok-next.next c.in-ok-next.ensures)
+pub overflow_cast-places : goal.overflow_cast-places
+overflow_cast-places c = omega (arith, choice_starts (seen_of c.args.seen.now) c.args.controlled c.args.bytes.now c.loop-choice.end c.in_ok-next.next c.in_ok-next.ensures)
 
 pub loop-choice-preserved : goal.loop-choice-preserved
 loop-choice-preserved c =
-    choices_more (seen_of c.args.seen.now) c.args.controlled c.args.bytes.now c.args.count c.args.place c.loop-choice.choice c.loop-choice.end c.loop-choice.places c.loop-choice.invariant c.in-ok-next.next (omega arith) c.requires.few c.in-ok-next.ensures
+    choices_more (seen_of c.args.seen.now) c.args.controlled c.args.bytes.now c.args.count c.args.place c.loop-choice.choice c.loop-choice.end c.loop-choice.places c.loop-choice.invariant c.in_ok-next.next (omega arith) c.requires.few c.in_ok-next.ensures
 
 pub returns : goal.returns
 returns c =

@@ -8,4 +8,4 @@ use Rattle.layout.proofs.items.numbers_end.Given as goal
 abbrev pub invariant-loop-number : goal.invariant-loop-number
 invariant-loop-number l =
     end_told (many (expression_item (whole_number 8 (seen_of l.seen))) l.count l.bytes l.place)
-    ≡ end_told (many (expression_item (whole_number 8 (seen_of l.seen))) (l.count - l.-number) l.bytes l.end)
+    ≡ end_told (many (expression_item (whole_number 8 (seen_of l.seen))) (l.count - l._number) l.bytes l.end)

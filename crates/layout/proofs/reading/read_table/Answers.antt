@@ -4,46 +4,46 @@ use Rattle.layout.proofs.Answered.{told_fine, told_stops}
 use Rattle.layout.proofs.Whole.{width_stop, variables_stop, count_stop, atoms_stop, table_goes}
 use Rattle.layout.proofs.reading.read_table.Goals as goal
 
-pub returns-in-err-width : goal.returns-in-err-width
-returns-in-err-width c =
+pub returns-in_err-width : goal.returns-in_err-width
+returns-in_err-width c =
     let bs = c.args.bytes.now in
-    let p = err_from_is_err_and c.from-residual.result c.from-residual.ensures.1 in
-    rw (p.1, p.2) (width_stop bs _ (told_stops (byte_item 3 (between 0 32) bs 0) _ c.in-err-width.ensures))
+    let p = err_from_is_err_and c.from_residual.result c.from_residual.ensures.1 in
+    rw (p.1, p.2) (width_stop bs _ (told_stops (byte_item 3 (between 0 32) bs 0) _ c.in_err-width.ensures))
 
-pub returns-in-err-variables : goal.returns-in-err-variables
-returns-in-err-variables c =
+pub returns-in_err-variables : goal.returns-in_err-variables
+returns-in_err-variables c =
     let bs = c.args.bytes.now in
-    let width = told_fine (byte_item 3 (between 0 32) bs 0) c.in-ok-width.width c.in-ok-width.next c.in-ok-width.ensures in
-    let p = err_from_is_err_and c.from-residual-in-err-variables.result c.from-residual-in-err-variables.ensures.1 in
-    rw (p.1, p.2) (variables_stop bs c.in-ok-width.width c.in-ok-width.next width _ c.in-err-variables.ensures)
+    let width = told_fine (byte_item 3 (between 0 32) bs 0) c.in_ok-width.width c.in_ok-width.next c.in_ok-width.ensures in
+    let p = err_from_is_err_and c.from_residual-in_err-variables.result c.from_residual-in_err-variables.ensures.1 in
+    rw (p.1, p.2) (variables_stop bs c.in_ok-width.width c.in_ok-width.next width _ c.in_err-variables.ensures)
 
-pub returns-in-err-count : goal.returns-in-err-count
-returns-in-err-count c =
+pub returns-in_err-count : goal.returns-in_err-count
+returns-in_err-count c =
     let bs = c.args.bytes.now in
-    let width = told_fine (byte_item 3 (between 0 32) bs 0) c.in-ok-width.width c.in-ok-width.next c.in-ok-width.ensures in
-    let variables = c.in-ok-variables.ensures in
-    let p = err_from_is_err_and c.from-residual-in-err-count.result c.from-residual-in-err-count.ensures.1 in
-    rw (p.1, p.2) (count_stop bs c.in-ok-width.width c.in-ok-width.next width variables.part c.in-ok-variables.next variables.read _ (told_stops (byte_item 4 (between 0 16) bs c.in-ok-variables.next) _ c.in-err-count.ensures))
+    let width = told_fine (byte_item 3 (between 0 32) bs 0) c.in_ok-width.width c.in_ok-width.next c.in_ok-width.ensures in
+    let variables = c.in_ok-variables.ensures in
+    let p = err_from_is_err_and c.from_residual-in_err-count.result c.from_residual-in_err-count.ensures.1 in
+    rw (p.1, p.2) (count_stop bs c.in_ok-width.width c.in_ok-width.next width variables.part c.in_ok-variables.next variables.read _ (told_stops (byte_item 4 (between 0 16) bs c.in_ok-variables.next) _ c.in_err-count.ensures))
 
-pub returns-in-err-atoms : goal.returns-in-err-atoms
-returns-in-err-atoms c =
+pub returns-in_err-atoms : goal.returns-in_err-atoms
+returns-in_err-atoms c =
     let bs = c.args.bytes.now in
-    let width = told_fine (byte_item 3 (between 0 32) bs 0) c.in-ok-width.width c.in-ok-width.next c.in-ok-width.ensures in
-    let variables = c.in-ok-variables.ensures in
-    let count = told_fine (byte_item 4 (between 0 16) bs c.in-ok-variables.next) c.in-ok-count.count c.in-ok-count.next c.in-ok-count.ensures in
-    let p = err_from_is_err_and c.from-residual-in-err-atoms.result c.from-residual-in-err-atoms.ensures.1 in
-    rw (p.1, p.2) (atoms_stop bs c.in-ok-width.width c.in-ok-width.next width variables.part c.in-ok-variables.next variables.read c.in-ok-count.count c.in-ok-count.next count _ (c.in-err-atoms.ensures variables.part variables.made.kinds))
+    let width = told_fine (byte_item 3 (between 0 32) bs 0) c.in_ok-width.width c.in_ok-width.next c.in_ok-width.ensures in
+    let variables = c.in_ok-variables.ensures in
+    let count = told_fine (byte_item 4 (between 0 16) bs c.in_ok-variables.next) c.in_ok-count.count c.in_ok-count.next c.in_ok-count.ensures in
+    let p = err_from_is_err_and c.from_residual-in_err-atoms.result c.from_residual-in_err-atoms.ensures.1 in
+    rw (p.1, p.2) (atoms_stop bs c.in_ok-width.width c.in_ok-width.next width variables.part c.in_ok-variables.next variables.read c.in_ok-count.count c.in_ok-count.next count _ (c.in_err-atoms.ensures variables.part variables.made.kinds))
 
 pub returns : goal.returns
 returns c =
     let bs = c.args.bytes.now in
-    let width = told_fine (byte_item 3 (between 0 32) bs 0) c.in-ok-width.width c.in-ok-width.next c.in-ok-width.ensures in
-    let variables = c.in-ok-variables.ensures in
-    let count = told_fine (byte_item 4 (between 0 16) bs c.in-ok-variables.next) c.in-ok-count.count c.in-ok-count.next c.in-ok-count.ensures in
-    let atoms = c.in-ok-atoms.ensures variables.part variables.made.kinds in
+    let width = told_fine (byte_item 3 (between 0 32) bs 0) c.in_ok-width.width c.in_ok-width.next c.in_ok-width.ensures in
+    let variables = c.in_ok-variables.ensures in
+    let count = told_fine (byte_item 4 (between 0 16) bs c.in_ok-variables.next) c.in_ok-count.count c.in_ok-count.next c.in_ok-count.ensures in
+    let atoms = c.in_ok-atoms.ensures variables.part variables.made.kinds in
     record {
       part = record { variables = variables.part; atoms = atoms.part };
-      read = table_goes bs c.in-ok-width.width c.in-ok-width.next width variables.part c.in-ok-variables.next variables.read c.in-ok-count.count c.in-ok-count.next count atoms.part c.in-ok-atoms.end atoms.read;
+      read = table_goes bs c.in_ok-width.width c.in_ok-width.next width variables.part c.in_ok-variables.next variables.read c.in_ok-count.count c.in_ok-count.next count atoms.part c.in_ok-atoms.end atoms.read;
       made =
           record {
             kind_rows = variables.made.kind_rows;

@@ -8,10 +8,10 @@ pub loop-name-init : goal.loop-name-init
 loop-name-init c = every_none (known_in c.args.kinds c.args.names.now)
 
 pub loop-name-preserved : goal.loop-name-preserved
-loop-name-preserved c = every_more (known_in c.args.kinds c.args.names.now) c.loop-name.name c.loop-name.invariant (sym c.if-not-is-known-in.ensures)
+loop-name-preserved c = every_more (known_in c.args.kinds c.args.names.now) c.loop-name.name c.loop-name.invariant (sym c.if-not-is_known_in.ensures)
 
-pub returns-then-not-is-known-in : goal.returns-then-not-is-known-in
-returns-then-not-is-known-in c = sym (every_fails (known_in c.args.kinds c.args.names.now) 32 c.loop-name.name (omega arith) (sym c.if-not-is-known-in.ensures))
+pub returns-then-not-is_known_in : goal.returns-then-not-is_known_in
+returns-then-not-is_known_in c = sym (every_fails (known_in c.args.kinds c.args.names.now) 32 c.loop-name.name (omega arith) (sym c.if-not-is_known_in.ensures))
 
 pub returns : goal.returns
 returns c =

@@ -8,10 +8,10 @@ pub loop-name-init : goal.loop-name-init
 loop-name-init c = every_none (own_in c.args.kinds c.args.names.now)
 
 pub loop-name-preserved : goal.loop-name-preserved
-loop-name-preserved c = every_more (own_in c.args.kinds c.args.names.now) c.loop-name.name c.loop-name.invariant (sym c.if-not-is-own-in.ensures)
+loop-name-preserved c = every_more (own_in c.args.kinds c.args.names.now) c.loop-name.name c.loop-name.invariant (sym c.if-not-is_own_in.ensures)
 
-pub returns-then-not-is-own-in : goal.returns-then-not-is-own-in
-returns-then-not-is-own-in c = sym (every_fails (own_in c.args.kinds c.args.names.now) 32 c.loop-name.name (omega arith) (sym c.if-not-is-own-in.ensures))
+pub returns-then-not-is_own_in : goal.returns-then-not-is_own_in
+returns-then-not-is_own_in c = sym (every_fails (own_in c.args.kinds c.args.names.now) 32 c.loop-name.name (omega arith) (sym c.if-not-is_own_in.ensures))
 
 pub returns : goal.returns
 returns c =
