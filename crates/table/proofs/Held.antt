@@ -1,5 +1,5 @@
 -- What a table keeps is what it was opened from. Assumes nothing.
-use Rattle.std.proofs.Common.{◌≡◌, ℕ, ◌<◌, ◌≤◌, leb, ◌⊎◌, List, ◌++◌, length, take, drop, replicate, Ok, Err, Result, sym, refl, ap, ◌∙◌, subst, inl, inr, arith}
+use Rattle.std.proofs.Common.{◌≡◌, ℕ, ◌<◌, ◌≤◌, leb, ◌⊎◌, List, ◌++◌, length, take, drop, replicate, Ok, Err, Result, sym, ap, ◌∙◌, subst, inl, inr, arith}
 use lib.ListN.{length-replicate}
 use lib.Seq.{take-append_seam}
 use Rattle.std.proofs.lemmas.List.{length-take-le, length-append, length-drop}

@@ -4,7 +4,7 @@ use Rattle.language.proofs.TableFronts.{faults_are_the_first}
 use Rattle.language.proofs.Tables.{tables_read_back}
 use Rattle.language.specs.ExpressionLaws.{none_some}
 use Rattle.language.specs.Statements.{fault_at}
-use Rattle.language.specs.Tables.{TableSyntax, TableRight, table_bytes, Opened, opened, refused, fault_of, syntax_of, table_opened, outline_of, table_acts}
+use Rattle.language.specs.Tables.{TableSyntax, Opened, opened, refused, fault_of, syntax_of, table_opened, outline_of, table_acts}
 use Rattle.table.specs.Kept.{contents, meaning_of}
 use Rattle.table.specs.Promises.{Means, SoleTable, OpensAsWritten}
 use Rattle.table.specs.declared.kept.Table.{Table}

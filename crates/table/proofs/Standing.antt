@@ -1,13 +1,13 @@
 -- A choice that was read stands there item by item. Assumes nothing.
-use Rattle.std.proofs.Common.{◌≡◌, ℕ, zero, suc, ◌+◌, ◌<◌, ◌≤◌, List, [], ◌∷◌, ◌++◌, length, get_or, take, drop, Some, None, Option, sym, refl, ap, ◌∙◌, subst, le_of_suc-le-suc, not-suc-le-zero, arith}
+use Rattle.std.proofs.Common.{◌≡◌, ℕ, zero, suc, ◌+◌, ◌<◌, ◌≤◌, List, [], ◌∷◌, ◌++◌, length, get_or, take, drop, Some, refl, ap, ◌∙◌, subst, le_of_suc-le-suc, not-suc-le-zero, arith}
 use lib.Seq.{take-append_seam}
 use Rattle.std.proofs.lemmas.List.{length-append, length-drop}
 use Rattle.std.specs.List.{slice_get}
 use Rattle.language.proofs.Bytes.{stands_drop}
 use Rattle.language.specs.ExpressionLaws.{none_some, Stands, byte_is}
 use Rattle.language.specs.Expressions.{Number, Seen, number_bytes, truth_bytes, whole_number, whole_truth}
-use Rattle.language.specs.TableReading.{Got, then_read, fine_same, truth_item_read, number_item_read, choice_read}
-use Rattle.language.specs.Tables.{TableChoice, with_length, NumberFits, Step, fine, and_then, expression_item, many, read_choice}
+use Rattle.language.specs.TableReading.{then_read, fine_same, truth_item_read, number_item_read, choice_read}
+use Rattle.language.specs.Tables.{TableChoice, with_length, fine, and_then, expression_item, many, read_choice}
 use Rattle.table.specs.Asked.{ChoiceStands}
 use Rattle.table.specs.Items.{after_item, item_bytes, item_place}
 use Rattle.table.proofs.Walks.{place_next}

@@ -1,5 +1,5 @@
 -- What an opened table tells is what its bytes say. Assumes nothing.
-use Rattle.std.proofs.Common.{◌≡◌, ℕ, zero, suc, ◌+◌, ◌<◌, ◌≤◌, Bool, true, false, cond, List, [], ◌∷◌, length, get_or, Some, None, Ok, Err, Option, Result, sym, refl, ap, ◌∙◌, subst, arith}
+use Rattle.std.proofs.Common.{◌≡◌, ℕ, zero, suc, ◌+◌, ◌<◌, ◌≤◌, Bool, true, false, cond, List, [], length, get_or, Some, None, Ok, Err, Option, sym, refl, ap, ◌∙◌, subst, arith}
 use mathlib.Core.Logic.{∥∥₁_elim, ∥∥₁_map}
 use native.Mathlib.Bridge.{le_prop}
 use base.Stored.{Coded-set, coded_bool, coded_ℕ, coded_list}
@@ -15,9 +15,8 @@ use Rattle.model.specs.declared.Round.{Round}
 use Rattle.model.specs.declared.Round.TheVariants.{Initial, Update}
 use Rattle.language.proofs.Steps.{rank_within}
 use Rattle.language.specs.ExpressionLaws.{none_some}
-use Rattle.language.specs.Expressions.{truth_bytes}
 use Rattle.language.specs.TableLaws.{table_sound, table_meaning}
-use Rattle.language.specs.Tables.{TableSyntax, TableAtom, TableChoice, bit, rank, size, variable_at, variable_kind, variable_top, Opened, opened, refused, table_opened, fault_of, syntax_of, table_fault, table_of, no_table, in_set, choices_of, numbers_of, seen_in}
+use Rattle.language.specs.Tables.{TableAtom, TableChoice, bit, rank, size, variable_at, variable_kind, variable_top, Opened, opened, refused, table_opened, fault_of, syntax_of, table_fault, table_of, no_table, in_set, choices_of, numbers_of, seen_in}
 use Rattle.layout.specs.Laid.{Laid, AtomLaid, ChoicesLaid}
 use Rattle.layout.specs.declared.parts.AtomLayout.{AtomLayout}
 use Rattle.layout.specs.Read.{Opens, Read}

@@ -1,5 +1,5 @@
 -- Steps of walking over items. Assumes nothing.
-use Rattle.std.proofs.Common.{◌≡◌, ℕ, zero, suc, List, sym, refl, ap, ◌∙◌}
+use Rattle.std.proofs.Common.{◌≡◌, ℕ, zero, suc, List, refl, ap}
 use Rattle.table.specs.Items.{after_item, item_place}
 
 pub place_none : (bs : List ℕ) (k : ℕ) → item_place bs k 0 ≡ k

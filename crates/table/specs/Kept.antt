@@ -5,7 +5,7 @@ use Rattle.model.specs.Meanings.{OutlineFacts, Meaning}
 use Rattle.model.specs.declared.Round.{Round}
 use Rattle.language.specs.Expressions.{Number, number_bytes, truth_bytes}
 use Rattle.language.specs.TableLaws.{table_meaning}
-use Rattle.language.specs.Tables.{TableSyntax, TableAtom, TableChoice, bit, rank, table_of, table_outline, choices_of, numbers_of}
+use Rattle.language.specs.Tables.{TableAtom, TableChoice, bit, rank, table_of, table_outline, choices_of, numbers_of}
 use Rattle.table.specs.Contents.{held}
 use Rattle.table.specs.declared.kept.Table.{Table}
 

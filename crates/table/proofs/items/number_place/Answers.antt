@@ -1,4 +1,4 @@
-use Rattle.std.proofs.Common.{◌≡◌, suc, ◌≤◌, length, sym, ap, ◌∙◌, subst, zero-le, add-one}
+use Rattle.std.proofs.Common.{suc, ◌≤◌, length, sym, ap, ◌∙◌, subst, zero-le, add-one}
 use Rattle.language.proofs.Steps.{rank_none, rank_in, rank_out, rank_within}
 use Rattle.model.specs.Sets.{has}
 use Rattle.table.specs.Items.{after_item, item_place}

@@ -1,4 +1,4 @@
-use Rattle.std.proofs.Common.{◌≡◌, ◌≤◌, length, sym, ap, ◌∙◌, subst, arith}
+use Rattle.std.proofs.Common.{◌≤◌, length, sym, ap, ◌∙◌, subst, arith}
 use Rattle.table.specs.Asked.{controlled}
 use Rattle.table.specs.Items.{after_item, item_bytes}
 use Rattle.table.specs.Kept.{contents, atom_of, choice_of}

@@ -1,9 +1,9 @@
 use Rattle.table.proofs.Held.{held_same, held_opened, held_found}
 use Rattle.table.proofs.kept.Table.keep.Goals as goal
 
-pub invariant-of-result : goal.invariant-of-result
-invariant-of-result c =
-    (c.copied.ensures.full, (∣ held_found c.args.bytes.now c.copied.result c.copied.ensures.begins c.args.found c.requires ∣₁, tt))
+pub invariant_of-result : goal.invariant_of-result
+invariant_of-result c =
+    record { full = c.copied.ensures.full; read = ∣ held_found c.args.bytes.now c.copied.result c.copied.ensures.begins c.args.found c.requires ∣₁ }
 
 pub returns : goal.returns
 returns c =

@@ -1,4 +1,4 @@
-use Rattle.std.proofs.Common.{◌≡◌, ◌≤◌, length, sym, ap, ◌∙◌, subst, arith}
+use Rattle.std.proofs.Common.{◌≤◌, length, sym, ap, ◌∙◌, subst, arith}
 use Rattle.table.specs.Asked.{controlled}
 use Rattle.table.specs.Items.{after_item, item_bytes}
 use Rattle.table.specs.Kept.{contents, atom_of, choice_of}
@@ -12,21 +12,21 @@ contents-bytes-requires c =
     let few = few_bytes (contents t) (controlled (atom_of t c.args.atom)) (choice_of t c.args.round c.args.atom c.args.choice) c.in-Some.place c.in-Some.ensures in
     omega (arith, length_held t.bytes t.size t.full)
 
-pub number-place-requires : goal.number-place-requires
-number-place-requires c =
+pub number_place-requires : goal.number_place-requires
+number_place-requires c =
     let a = c.args in let sets = c.controls-controls in
     λ m h. walk_inside a.self.now a.round a.atom a.choice a.name sets.result sets.ensures (sym c.if-not-has.ensures) c.in-Some.place c.in-Some.ensures c.contents-bytes.result.now c.contents-bytes.ensures m (omega arith)
 
 pub item-requires : goal.item-requires
 item-requires c =
     let a = c.args in let sets = c.controls-controls in let bs = c.contents-bytes.result.now in
-    subst (λ k. after_item bs k ≤ length bs) (sym c.number-place.ensures)
+    subst (λ k. after_item bs k ≤ length bs) (sym c.number_place.ensures)
     (walk_inside a.self.now a.round a.atom a.choice a.name sets.result sets.ensures (sym c.if-not-has.ensures) c.in-Some.place c.in-Some.ensures bs c.contents-bytes.ensures _ (omega arith))
 
 pub returns-in-Some : goal.returns-in-Some
 returns-in-Some c =
     let a = c.args in let sets = c.controls-controls in let bs = c.contents-bytes.result.now in
-    c.item.ensures ∙ ap (item_bytes bs) c.number-place.ensures
+    c.item.ensures ∙ ap (item_bytes bs) c.number_place.ensures
     ∙ number_there a.self.now a.round a.atom a.choice a.name sets.result sets.ensures (sym c.if-not-has.ensures) c.in-Some.place c.in-Some.ensures bs c.contents-bytes.ensures
 
 pub returns-in-None : goal.returns-in-None

@@ -1,4 +1,4 @@
-use Rattle.std.proofs.Common.{◌≡◌, length, get_or, None, sym, ◌∙◌, arith}
+use Rattle.std.proofs.Common.{sym, ◌∙◌, arith}
 use Rattle.std.proofs.lemmas.List.{get_or_default, get_or_past}
 use Rattle.table.proofs.Told.{top_rows, top_told, top_none}
 use Rattle.table.proofs.kept.drawn.TableOutline.top.Goals as goal
