@@ -8,7 +8,6 @@ use Rattle.model.specs.States.{value}
 use Rattle.model.specs.Tests.{some}
 use Rattle.model.specs.declared.Round.{Round}
 use Rattle.model.specs.declared.Round.TheVariants.{Initial, Update}
-use Rattle.model.specs.declared.names.Names.{Names}
 use Rattle.theory.specs.Members.{Member}
 use Rattle.units.specs.Counting.{any}
 use Rattle.units.specs.Sealing.{sights, in_some_round, within}

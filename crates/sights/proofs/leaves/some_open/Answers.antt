@@ -7,10 +7,10 @@ pub loop-choice-init : goal.loop-choice-init
 loop-choice-init g c = some_none (open_at (g.D.Drawing.meaning c.args.drawing.now).acts c.args.look.now c.args.sight.now)
 
 pub loop-choice-preserved : goal.loop-choice-preserved
-loop-choice-preserved g c = some_more (open_at (g.D.Drawing.meaning c.args.drawing.now).acts c.args.look.now c.args.sight.now) c.loop-choice.choice c.loop-choice.invariant (sym c.if-is-open.ensures)
+loop-choice-preserved g c = some_more (open_at (g.D.Drawing.meaning c.args.drawing.now).acts c.args.look.now c.args.sight.now) c.loop-choice.choice c.loop-choice.invariant (sym c.if-is_open.ensures)
 
-pub returns-then-is-open : goal.returns-then-is-open
-returns-then-is-open g c = sym (some_at (open_at (g.D.Drawing.meaning c.args.drawing.now).acts c.args.look.now c.args.sight.now) c.args.look.now.choices c.loop-choice.choice (omega arith) (sym c.if-is-open.ensures))
+pub returns-then-is_open : goal.returns-then-is_open
+returns-then-is_open g c = sym (some_at (open_at (g.D.Drawing.meaning c.args.drawing.now).acts c.args.look.now c.args.sight.now) c.args.look.now.choices c.loop-choice.choice (omega arith) (sym c.if-is_open.ensures))
 
 pub returns : goal.returns
 returns g c =

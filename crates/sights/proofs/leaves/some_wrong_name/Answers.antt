@@ -7,10 +7,10 @@ pub loop-name-init : goal.loop-name-init
 loop-name-init g c = some_none (wrong_name (g.D.Drawing.meaning c.args.drawing.now).acts c.args.look.now c.args.sight.now c.args.choice)
 
 pub loop-name-preserved : goal.loop-name-preserved
-loop-name-preserved g c = some_more (wrong_name (g.D.Drawing.meaning c.args.drawing.now).acts c.args.look.now c.args.sight.now c.args.choice) c.loop-name.name c.loop-name.invariant (sym c.if-gives-wrong.ensures)
+loop-name-preserved g c = some_more (wrong_name (g.D.Drawing.meaning c.args.drawing.now).acts c.args.look.now c.args.sight.now c.args.choice) c.loop-name.name c.loop-name.invariant (sym c.if-gives_wrong.ensures)
 
-pub returns-then-gives-wrong : goal.returns-then-gives-wrong
-returns-then-gives-wrong g c = sym (some_at (wrong_name (g.D.Drawing.meaning c.args.drawing.now).acts c.args.look.now c.args.sight.now c.args.choice) (32) c.loop-name.name (omega arith) (sym c.if-gives-wrong.ensures))
+pub returns-then-gives_wrong : goal.returns-then-gives_wrong
+returns-then-gives_wrong g c = sym (some_at (wrong_name (g.D.Drawing.meaning c.args.drawing.now).acts c.args.look.now c.args.sight.now c.args.choice) (32) c.loop-name.name (omega arith) (sym c.if-gives_wrong.ensures))
 
 pub returns : goal.returns
 returns g c =

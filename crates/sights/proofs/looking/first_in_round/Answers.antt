@@ -9,8 +9,8 @@ use Rattle.sights.proofs.Filling.{finds_same, all_rows, top_of_old, top_of_new, 
 use Rattle.sights.proofs.Finding.{Known, looked_same}
 use Rattle.sights.proofs.looking.first_in_round.Goals as goal
 
-pub first-from-requires : goal.first-from-requires
-first-from-requires g c = record { held = c.requires; inside = omega arith; blank = blank_zeros c.args.round }
+pub first_from-requires : goal.first_from-requires
+first_from-requires g c = record { held = c.requires; inside = omega arith; blank = blank_zeros c.args.round }
 
 pub returns : goal.returns
 returns g c =
@@ -26,7 +26,7 @@ returns g c =
       tops_are = λ n h. c.tops.ensures n h ∙ ap (λ (o : OutlineFacts). o.top n) (sym agree);
     }
     in
-    c.first-from.ensures
+    c.first_from.ensures
     ∙ all_rows (hit (looked c.args.test m.acts look)) r (value c.ranges-2.result) (λ n. cond (old_names m.outline r a n) (m.outline.top n) 0) (λ n. cond (m.outline.awaits a n) (m.outline.top n) 0)
     (λ k h. c.ranges-2.ensures k (omega arith) ∙ ap (λ (o : OutlineFacts). top_at o r a k) (sym agree) ∙ top_of_old m.outline r a k h)
     (λ k h. c.ranges-2.ensures (32 + k) (omega arith) ∙ ap (λ (o : OutlineFacts). top_at o r a (32 + k)) (sym agree) ∙ top_of_new m.outline r a k h)

@@ -1,4 +1,4 @@
-use Rattle.std.proofs.Common.{◌≡◌, is_some, Some, None, Option, sym, ap, ◌∙◌, subst}
+use Rattle.std.proofs.Common.{◌≡◌, is_some, Some, Option, sym, ap, ◌∙◌, subst}
 use Rattle.std.specs.Option.{option_or}
 use Rattle.model.specs.declared.Round.TheVariants.{Update}
 use Rattle.sights.specs.Sights.{first_in_round, first_sight, SightTold}
@@ -21,8 +21,8 @@ returns-in-Some g c =
 pub returns-in-None : goal.returns-in-None
 returns-in-None g c =
     let m = g.D.Drawing.meaning c.args.drawing.now in
-    let first : c.first-in-round-in-None.result ≡ first_sight m c.args.test c.args.atom =
-    c.first-in-round-in-None.ensures ∙ ap (λ (o : Option Sight). option_or o (first_in_round m c.args.test Update c.args.atom)) (sym c.in-None.is ∙ c.first_in_round.ensures)
+    let first : c.first_in_round-in-None.result ≡ first_sight m c.args.test c.args.atom =
+    c.first_in_round-in-None.ensures ∙ ap (λ (o : Option Sight). option_or o (first_in_round m c.args.test Update c.args.atom)) (sym c.in-None.is ∙ c.first_in_round.ensures)
     in
     record {
       first = first;
