@@ -11,12 +11,12 @@ loop-atom-init g c = lowest_none (circular (g.D.Outline.outline c.args.drawing.n
 pub loop-atom-preserved : goal.loop-atom-preserved
 loop-atom-preserved g c =
     lowest_more (circular (g.D.Outline.outline c.args.drawing.now)) c.loop-atom.atom c.loop-atom.invariant
-    (circular_by (g.D.Outline.outline c.args.drawing.now) (direct c.of-table.result) c.of-table.ensures c.requires.few c.atoms-atoms.result c.atoms-atoms.ensures c.loop-atom.atom (omega arith) _ c.if-is-circular.ensures)
+    (circular_by (g.D.Outline.outline c.args.drawing.now) (direct c.of-table.result) c.of-table.ensures c.requires.few c.atoms-atoms.result c.atoms-atoms.ensures c.loop-atom.atom (omega arith) _ c.if-is_circular.ensures)
 
-pub returns-then-is-circular : goal.returns-then-is-circular
-returns-then-is-circular g c =
+pub returns-then-is_circular : goal.returns-then-is_circular
+returns-then-is_circular g c =
     sym (lowest_at (circular (g.D.Outline.outline c.args.drawing.now)) (g.D.Outline.outline c.args.drawing.now).atoms c.loop-atom.atom (omega arith) c.loop-atom.invariant
-    (circular_by (g.D.Outline.outline c.args.drawing.now) (direct c.of-table.result) c.of-table.ensures c.requires.few c.atoms-atoms.result c.atoms-atoms.ensures c.loop-atom.atom (omega arith) _ c.if-is-circular.ensures))
+    (circular_by (g.D.Outline.outline c.args.drawing.now) (direct c.of-table.result) c.of-table.ensures c.requires.few c.atoms-atoms.result c.atoms-atoms.ensures c.loop-atom.atom (omega arith) _ c.if-is_circular.ensures))
 
 pub returns : goal.returns
 returns g c =

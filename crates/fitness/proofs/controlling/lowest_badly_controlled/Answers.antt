@@ -8,11 +8,11 @@ loop-name-init g c = lowest_none (badly_controlled (g.D.Outline.outline c.args.d
 
 pub loop-name-preserved : goal.loop-name-preserved
 loop-name-preserved g c =
-    lowest_more (badly_controlled (g.D.Outline.outline c.args.drawing.now)) c.loop-name.name c.loop-name.invariant (sym c.if-is-badly-controlled.ensures)
+    lowest_more (badly_controlled (g.D.Outline.outline c.args.drawing.now)) c.loop-name.name c.loop-name.invariant (sym c.if-is_badly_controlled.ensures)
 
-pub returns-then-is-badly-controlled : goal.returns-then-is-badly-controlled
-returns-then-is-badly-controlled g c =
-    sym (lowest_at (badly_controlled (g.D.Outline.outline c.args.drawing.now)) 32 c.loop-name.name (omega arith) c.loop-name.invariant (sym c.if-is-badly-controlled.ensures))
+pub returns-then-is_badly_controlled : goal.returns-then-is_badly_controlled
+returns-then-is_badly_controlled g c =
+    sym (lowest_at (badly_controlled (g.D.Outline.outline c.args.drawing.now)) 32 c.loop-name.name (omega arith) c.loop-name.invariant (sym c.if-is_badly_controlled.ensures))
 
 pub returns : goal.returns
 returns g c =

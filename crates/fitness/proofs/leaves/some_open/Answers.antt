@@ -7,11 +7,11 @@ pub loop-choice-init : goal.loop-choice-init
 loop-choice-init g c = some_none (open_at (g.D.Drawing.meaning c.args.drawing.now).acts c.args.look.now.round c.args.look.now.atom c.args.rows.now.old c.args.rows.now.new)
 
 pub loop-choice-preserved : goal.loop-choice-preserved
-loop-choice-preserved g c = some_more (open_at (g.D.Drawing.meaning c.args.drawing.now).acts c.args.look.now.round c.args.look.now.atom c.args.rows.now.old c.args.rows.now.new) c.loop-choice.choice c.loop-choice.invariant (sym c.if-is-open.ensures.told)
+loop-choice-preserved g c = some_more (open_at (g.D.Drawing.meaning c.args.drawing.now).acts c.args.look.now.round c.args.look.now.atom c.args.rows.now.old c.args.rows.now.new) c.loop-choice.choice c.loop-choice.invariant (sym c.if-is_open.ensures.told)
 
-pub returns-then-is-open : goal.returns-then-is-open
-returns-then-is-open g c =
-    sym (some_at (open_at (g.D.Drawing.meaning c.args.drawing.now).acts c.args.look.now.round c.args.look.now.atom c.args.rows.now.old c.args.rows.now.new) ((g.D.Drawing.meaning c.args.drawing.now).acts.choices c.args.look.now.round c.args.look.now.atom) c.loop-choice.choice (omega arith) (sym c.if-is-open.ensures.told))
+pub returns-then-is_open : goal.returns-then-is_open
+returns-then-is_open g c =
+    sym (some_at (open_at (g.D.Drawing.meaning c.args.drawing.now).acts c.args.look.now.round c.args.look.now.atom c.args.rows.now.old c.args.rows.now.new) ((g.D.Drawing.meaning c.args.drawing.now).acts.choices c.args.look.now.round c.args.look.now.atom) c.loop-choice.choice (omega arith) (sym c.if-is_open.ensures.told))
 
 pub returns : goal.returns
 returns g c =

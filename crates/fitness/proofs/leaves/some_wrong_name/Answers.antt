@@ -7,11 +7,11 @@ pub loop-name-init : goal.loop-name-init
 loop-name-init g c = some_none (wrong_name (g.D.Outline.outline c.args.drawing.now) (g.D.Drawing.meaning c.args.drawing.now).acts c.args.look.now.round c.args.look.now.atom c.args.rows.now.old c.args.rows.now.new c.args.choice)
 
 pub loop-name-preserved : goal.loop-name-preserved
-loop-name-preserved g c = some_more (wrong_name (g.D.Outline.outline c.args.drawing.now) (g.D.Drawing.meaning c.args.drawing.now).acts c.args.look.now.round c.args.look.now.atom c.args.rows.now.old c.args.rows.now.new c.args.choice) c.loop-name.name c.loop-name.invariant (sym c.if-gives-wrong.ensures)
+loop-name-preserved g c = some_more (wrong_name (g.D.Outline.outline c.args.drawing.now) (g.D.Drawing.meaning c.args.drawing.now).acts c.args.look.now.round c.args.look.now.atom c.args.rows.now.old c.args.rows.now.new c.args.choice) c.loop-name.name c.loop-name.invariant (sym c.if-gives_wrong.ensures)
 
-pub returns-then-gives-wrong : goal.returns-then-gives-wrong
-returns-then-gives-wrong g c =
-    sym (some_at (wrong_name (g.D.Outline.outline c.args.drawing.now) (g.D.Drawing.meaning c.args.drawing.now).acts c.args.look.now.round c.args.look.now.atom c.args.rows.now.old c.args.rows.now.new c.args.choice) (32) c.loop-name.name (omega arith) (sym c.if-gives-wrong.ensures))
+pub returns-then-gives_wrong : goal.returns-then-gives_wrong
+returns-then-gives_wrong g c =
+    sym (some_at (wrong_name (g.D.Outline.outline c.args.drawing.now) (g.D.Drawing.meaning c.args.drawing.now).acts c.args.look.now.round c.args.look.now.atom c.args.rows.now.old c.args.rows.now.new c.args.choice) (32) c.loop-name.name (omega arith) (sym c.if-gives_wrong.ensures))
 
 pub returns : goal.returns
 returns g c =

@@ -7,11 +7,11 @@ pub loop-atom-init : goal.loop-atom-init
 loop-atom-init g c = lowest_none (found c.args.test (g.D.Outline.outline c.args.drawing.now) (g.D.Drawing.meaning c.args.drawing.now).acts)
 
 pub loop-atom-preserved : goal.loop-atom-preserved
-loop-atom-preserved g c = lowest_more (found c.args.test (g.D.Outline.outline c.args.drawing.now) (g.D.Drawing.meaning c.args.drawing.now).acts) c.loop-atom.atom c.loop-atom.invariant (sym c.if-is-found.ensures)
+loop-atom-preserved g c = lowest_more (found c.args.test (g.D.Outline.outline c.args.drawing.now) (g.D.Drawing.meaning c.args.drawing.now).acts) c.loop-atom.atom c.loop-atom.invariant (sym c.if-is_found.ensures)
 
-pub returns-then-is-found : goal.returns-then-is-found
-returns-then-is-found g c =
-    sym (lowest_at (found c.args.test (g.D.Outline.outline c.args.drawing.now) (g.D.Drawing.meaning c.args.drawing.now).acts) (g.D.Outline.outline c.args.drawing.now).atoms c.loop-atom.atom (omega arith) c.loop-atom.invariant (sym c.if-is-found.ensures))
+pub returns-then-is_found : goal.returns-then-is_found
+returns-then-is_found g c =
+    sym (lowest_at (found c.args.test (g.D.Outline.outline c.args.drawing.now) (g.D.Drawing.meaning c.args.drawing.now).acts) (g.D.Outline.outline c.args.drawing.now).atoms c.loop-atom.atom (omega arith) c.loop-atom.invariant (sym c.if-is_found.ensures))
 
 pub returns : goal.returns
 returns g c =

@@ -8,7 +8,7 @@ loop-name-init g c = (omega arith, stopped_none (seen_values (g.D.Outline.outlin
 
 pub loop-name-preserved : goal.loop-name-preserved
 loop-name-preserved g c =
-    (omega arith, stopped_more (seen_values (g.D.Outline.outline c.args.drawing.now) c.args.atom) c.loop-name.name 1 65537 c.loop-name.seen _ _ c.loop-name.invariant.1 c.values-seen.ensures.told c.times-seen.ensures)
+    (omega arith, stopped_more (seen_values (g.D.Outline.outline c.args.drawing.now) c.args.atom) c.loop-name.name 1 65537 c.loop-name.seen _ _ c.loop-name.invariant.1 c.values_seen.ensures.told c.times-seen.ensures)
 
 pub returns : goal.returns
 returns g c = stopped_all (seen_values (g.D.Outline.outline c.args.drawing.now) c.args.atom) c.loop-name.name 32 65537 c.loop-name.seen c.loop-name.invariant.1 (omega arith)

@@ -8,13 +8,13 @@ loop-atom-init g c = lowest_none (sees_too_much (g.D.Outline.outline c.args.draw
 
 pub loop-atom-preserved : goal.loop-atom-preserved
 loop-atom-preserved g c =
-    lowest_more (sees_too_much (g.D.Outline.outline c.args.drawing.now)) c.loop-atom.atom c.loop-atom.invariant (sym c.if-sees-too-many.ensures)
+    lowest_more (sees_too_much (g.D.Outline.outline c.args.drawing.now)) c.loop-atom.atom c.loop-atom.invariant (sym c.if-sees_too_many.ensures)
 
-pub returns-then-sees-too-many : goal.returns-then-sees-too-many
-returns-then-sees-too-many g c =
+pub returns-then-sees_too_many : goal.returns-then-sees_too_many
+returns-then-sees_too_many g c =
     let o = g.D.Outline.outline c.args.drawing.now in
     let inside : c.loop-atom.atom < o.atoms = omega arith in
-    sym (lowest_at (sees_too_much o) o.atoms c.loop-atom.atom inside c.loop-atom.invariant (sym c.if-sees-too-many.ensures))
+    sym (lowest_at (sees_too_much o) o.atoms c.loop-atom.atom inside c.loop-atom.invariant (sym c.if-sees_too_many.ensures))
 
 pub returns : goal.returns
 returns g c =

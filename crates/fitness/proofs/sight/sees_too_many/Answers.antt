@@ -4,4 +4,4 @@ use Rattle.fitness.proofs.Limits.{past}
 use Rattle.fitness.proofs.sight.sees_too_many.Goals as goal
 
 pub returns : goal.returns
-returns g c = ap (ltb 65536) c.all-seen.ensures ∙ past (sight (g.D.Outline.outline c.args.drawing.now) c.args.atom) 65536
+returns g c = ap (ltb 65536) c.all_seen.ensures ∙ past (sight (g.D.Outline.outline c.args.drawing.now) c.args.atom) 65536

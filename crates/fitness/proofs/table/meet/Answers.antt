@@ -7,11 +7,11 @@ pub loop-name-init : goal.loop-name-init
 loop-name-init c = some_none (shared c.args.left.now c.args.right.now)
 
 pub loop-name-preserved : goal.loop-name-preserved
-loop-name-preserved c = some_more (shared c.args.left.now c.args.right.now) c.loop-name.name c.loop-name.invariant (sym c.if-in-both.ensures)
+loop-name-preserved c = some_more (shared c.args.left.now c.args.right.now) c.loop-name.name c.loop-name.invariant (sym c.if-in_both.ensures)
 
-pub returns-then-in-both : goal.returns-then-in-both
-returns-then-in-both c =
-    sym (some_at (shared c.args.left.now c.args.right.now) (32) c.loop-name.name (omega arith) (sym c.if-in-both.ensures))
+pub returns-then-in_both : goal.returns-then-in_both
+returns-then-in_both c =
+    sym (some_at (shared c.args.left.now c.args.right.now) (32) c.loop-name.name (omega arith) (sym c.if-in_both.ensures))
 
 pub returns : goal.returns
 returns c =

@@ -15,4 +15,4 @@ returns g c =
     let whole : min (outer * inner) 1048577 ≡ min (width m) 1048577 =
     ap (λ (p : OutlineFacts). min (product (external_values p) 32 * product (larger_count m) p.atoms) 1048577) (sym (g.met.D.Drawing.agree c.args.drawing.now))
     in
-    ap (ltb 1048576) (c.full-width.ensures ∙ ap (λ x. min (x * inner) 1048577) c.outer-width.ensures ∙ stopped outer inner 1048577 ∙ whole) ∙ past (width m) 1048576
+    ap (ltb 1048576) (c.full_width.ensures ∙ ap (λ x. min (x * inner) 1048577) c.outer_width.ensures ∙ stopped outer inner 1048577 ∙ whole) ∙ past (width m) 1048576
