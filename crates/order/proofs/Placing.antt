@@ -1,17 +1,16 @@
 -- Placing atoms one after the other. Assumes nothing.
-use Rattle.std.proofs.Common.{◌≡◌, ℕ, suc, ◌+◌, ◌<◌, ◌≤◌, Bool, true, false, not, ◌&&◌, ◌||◌, eqb, ltb, ◌≢◌, ◌⊎◌, List, [], ◌∷◌, map, length, set, Some, None, sym, refl, ap, ◌∙◌, subst, inl, inr, ⊎_elim, not-suc-le-zero, arith, get_or-set_other, get_or-set_same}
+use Rattle.std.proofs.Common.{◌≡◌, ℕ, ◌+◌, ◌<◌, ◌≤◌, Bool, true, false, not, ◌||◌, eqb, ltb, ◌≢◌, List, ◌∷◌, map, length, set, sym, refl, ◌∙◌, subst, inl, inr, ⊎_elim, not-suc-le-zero, arith, get_or-set_other, get_or-set_same}
 use native.Mathlib.Decide.{ℕ_discrete}
 use lib.ListN.{length-map}
-use Rattle.std.proofs.lemmas.Bool.{and_parts, and_from, or_cases, or_left, or_right, both_ways, cases_Bool, cases_eq, cases_lt, not-true, not_from_false, eqb-true, eq-eqb, lt-ltb}
+use Rattle.std.proofs.lemmas.Bool.{and_parts, and_from, or_cases, or_left, or_right, both_ways, cases_Bool, cases_eq, not-true, not_from_false, eqb-true, eq-eqb, lt-ltb}
 use Rattle.model.specs.Sets.{is_name}
-use Rattle.model.specs.Tests.{some, lowest}
-use Rattle.model.proofs.Bounded.{some_decides, some_at}
-use Rattle.model.proofs.Lowest.{lowest_clear, lowest_found}
+use Rattle.model.specs.Tests.{some}
+use Rattle.model.proofs.Bounded.{some_at}
 use Rattle.theory.specs.Enumerations.{below}
 use Rattle.theory.specs.Members.{Member, Distinct, Included}
 use Rattle.theory.proofs.Enumerations.{below_exact, distinct_below, length_below}
 use Rattle.theory.proofs.Members.{member_decided, pigeonhole, member_map, map_from, distinct_map}
-use Rattle.order.specs.Orders.{atom_at, InOrder, waits_for, ready, NeverStuck}
+use Rattle.order.specs.Orders.{atom_at, InOrder, waits_for, ready}
 
 -- what stands after some places are filled
 pub record Placed (awaits : ℕ → ℕ → Bool) (atoms : ℕ) (order : List ℕ) (placed : ℕ → Bool) (filled : ℕ) : Type 0 where

@@ -9,10 +9,10 @@ use Rattle.order.proofs.finding.order_by.Goals as goal
 pub loop-place-init : goal.loop-place-init
 loop-place-init c = (refl, placed_none (direct c.args.table.now) c.args.atoms _ (has c.none-placed.result) c.none-placed.ensures)
 
-pub returns-in-default : goal.returns-in-default
-returns-in-default c = record {
+pub returns-in_default : goal.returns-in_default
+returns-in_default c = record {
   long = c.loop-place.invariant.0;
-  ordered = λ never. absurd (not_all (direct c.args.table.now) c.args.atoms c.loop-place.order (has c.loop-place.placed) c.loop-place.place c.loop-place-test.true c.loop-place.invariant.1 (never (has c.loop-place.placed) (sym c.next.ensures ∙ c.in-default.is)));
+  ordered = λ never. absurd (not_all (direct c.args.table.now) c.args.atoms c.loop-place.order (has c.loop-place.placed) c.loop-place.place c.loop-place-test.true c.loop-place.invariant.1 (never (has c.loop-place.placed) (sym c.next.ensures ∙ c.in_default.is)));
 }
 
 pub loop-place-preserved : goal.loop-place-preserved
