@@ -10,10 +10,10 @@ use Rattle.any_drawing.proofs.AnyDrawing.join.Goals as goal
 
 pub returns : goal.returns
 returns c =
-    let left = c.in-ok-left.ensures.ok in
-    let right = c.in-ok-right.ensures.ok in
-    let Keeps : AnyDrawing → AnyDrawing → Type 0 = λ l r. WholeJoin (Whole l) (Whole r) (any_outline l) (any_outline r) c.join-fault-fault.result c.atoms-left-atoms.result in
-    let whole : Keeps c.args.left c.args.right = record { left_whole = c.requires.left; right_whole = c.requires.right; judged = c.join-fault-fault.ensures; counted = c.atoms-left-atoms.ensures } in
+    let left = c.in_ok-left.ensures.ok in
+    let right = c.in_ok-right.ensures.ok in
+    let Keeps : AnyDrawing → AnyDrawing → Type 0 = λ l r. WholeJoin (Whole l) (Whole r) (any_outline l) (any_outline r) c.join_fault-fault.result c.atoms-left_atoms.result in
+    let whole : Keeps c.args.left c.args.right = record { left_whole = c.requires.left; right_whole = c.requires.right; judged = c.join_fault-fault.ensures; counted = c.atoms-left_atoms.ensures } in
     record {
       whole = transport (λ i. Keeps (sym left i) (sym right i)) whole;
       means = λ i. joined (any_meaning (left i)) (any_meaning (right i));

@@ -9,11 +9,11 @@ use Rattle.any_drawing.proofs.AnyDrawing.rename.Goals as goal
 
 pub returns : goal.returns
 returns c =
-    let same = c.in-ok-below.ensures.ok in
+    let same = c.in_ok-below.ensures.ok in
     let m = any_meaning c.args.below in
     record {
-      whole = subst (λ d. WholeRename (Whole d) (any_outline d) c.args.old c.args.new c.rename-fault-fault.result) (sym same)
-          (whole_rename m.outline m.outline_laws c.args.old c.args.new c.requires c.rename-fault-fault.ensures);
+      whole = subst (λ d. WholeRename (Whole d) (any_outline d) c.args.old c.args.new c.rename_fault-fault.result) (sym same)
+          (whole_rename m.outline m.outline_laws c.args.old c.args.new c.requires c.rename_fault-fault.ensures);
       means = ap (λ d. renamed (any_meaning d) c.args.old c.args.new) same;
       part = renames_part m c.args.old c.args.new;
     }

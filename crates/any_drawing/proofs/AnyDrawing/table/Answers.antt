@@ -8,8 +8,8 @@ use Rattle.any_drawing.proofs.AnyDrawing.table.Goals as goal
 pub returns : goal.returns
 returns c =
     let bytes : List ℕ = c.args.bytes.now in
-    let same = c.in-ok-table.ensures.ok in
-    let table : Table = c.in-ok-table.table.value in
+    let same = c.in_ok-table.ensures.ok in
+    let table : Table = c.in_ok-table.table.value in
     let opened : table_opened (contents table) ≡ table_opened bytes = subst (λ t. table_opened (contents t) ≡ table_opened bytes) (sym same) c.open.ensures.opened in
     record {
       whole = tt;
