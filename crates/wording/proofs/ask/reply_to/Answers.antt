@@ -2,7 +2,7 @@ use Rattle.std.proofs.Common.{◌≡◌, vec_items, sym, ap, ◌∙◌, to_z-of_
 use Rattle.wording.specs.Told.{assignment_at}
 use Rattle.wording.proofs.Below.{below_none, below_push, below_pass, assignment_there, assignment_absent}
 use Rattle.wording.proofs.ask.reply_to.Goals as goal
-use Rattle.wording.proofs.ask.reply_to.Goals.{then-has+in-ok-push, else-has}
+use Rattle.wording.proofs.ask.reply_to.Goals.{then-has+in_ok-push, else-has}
 
 pub loop-name-init : goal.loop-name-init
 loop-name-init g c = c.new-given.ensures.items ∙ sym (below_none (assignment_at (g.D.Outline.outline c.args.drawing.now) (g.D.Drawing.meaning c.args.drawing.now).acts c.args.q.now))
@@ -15,10 +15,10 @@ loop-name-preserved g c =
     let n = c.loop-name.name in
     let told = sym (c.controls-controls.ensures n) ∙ sym c.has.ensures in
     elim c.if-has.branch [
-      | then-has+in-ok-push w ↦
-          below_push (assignment_at o acts q) n _ _ _ c.loop-name.invariant (ap vec_items w.given-is ∙ w.in-ok-push.ensures.items)
-          (let fits : SFits w16 w.gives_value.result = search rules in
-          assignment_there o acts q n _ (told ∙ w.if-has.true) (to_z-of_z fits ∙ w.gives_value.ensures.told))
+      | then-has+in_ok-push w ↦
+          below_push (assignment_at o acts q) n _ _ _ c.loop-name.invariant (ap vec_items w.given-is ∙ w.in_ok-push.ensures.items)
+          (let fits : SFits w16 w.gives-value.result = search rules in
+          assignment_there o acts q n _ (told ∙ w.if-has.true) (to_z-of_z fits ∙ w.gives-value.ensures.told))
       | else-has w ↦
           below_pass (assignment_at o acts q) n _ (ap vec_items w.given-is ∙ c.loop-name.invariant) (assignment_absent o acts q n (told ∙ w.if-has.false))
     ]

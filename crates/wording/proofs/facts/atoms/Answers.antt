@@ -4,7 +4,7 @@ use Rattle.wording.proofs.facts.atoms.Goals as goal
 
 pub loop-atom-preserved : goal.loop-atom-preserved
 loop-atom-preserved g c =
-    let pushed = c.in-ok-push.ensures in
+    let pushed = c.in_ok-push.ensures in
     let o = g.D.Outline.outline c.args.drawing.now in
     let acts = (g.D.Drawing.meaning c.args.drawing.now).acts in
     let atom = c.loop-atom.atom in
