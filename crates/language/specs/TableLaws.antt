@@ -5,7 +5,7 @@ use Rattle.std.proofs.Math.Nat.{div-eq_of_lt}
 use Rattle.std.proofs.lemmas.Int.{ints}
 use Rattle.std.proofs.lemmas.Option.{slice_get_past}
 use Rattle.std.proofs.lemmas.Bool.{and_parts, eqb-true, both_ways, false≢true, cases_lt}
-use Rattle.std.specs.List.{AllByRecursion as All, slice_get}
+use Rattle.std.specs.List.{AllByRecursion, slice_get}
 use Rattle.model.proofs.Bounded.{every_decides, some_decides}
 use Rattle.model.specs.Meanings.{Valuation, Bytes, OutlineLaws, ChoiceLaws, Alike, Meaning}
 use Rattle.model.specs.Tests.{every, some, implies}
@@ -136,7 +136,7 @@ table_sound bs =
 
 -- ---- the outline
 
-all_nth : {X : Type 0} (P : X → Type 0) (xs : List X) (i : ℕ) (x : X) → All P xs → slice_get xs i ≡ Some x → P x
+all_nth : {X : Type 0} (P : X → Type 0) (xs : List X) (i : ℕ) (x : X) → AllByRecursion P xs → slice_get xs i ≡ Some x → P x
 all_nth P [] i x h e = none_some x e
 all_nth P (y ∷ xs) zero x h e = let same : y ≡ x = some_same y x e in subst P same h.0
 all_nth P (y ∷ xs) (suc i) x h e = all_nth P xs i x h.1 e
@@ -293,7 +293,7 @@ module _ (t : TableSyntax) (right : TableRight t) where
 
   -- whatever a choice gives is 0 or the value of a number that fits
   module _ (P : ℤ → Type 0) (old new : Valuation) (nought : P (pos 0)) where
-    given_by : (s : Seen) (count : ℕ) → ((e : Number) → NumberFits s e → P (number_value e old new)) → (b : Bool) (place : ℕ) (cs : List TableChoice) (k : ℕ) → All (ChoiceRight s count) cs → P (given b place (slice_get cs k) old new)
+    given_by : (s : Seen) (count : ℕ) → ((e : Number) → NumberFits s e → P (number_value e old new)) → (b : Bool) (place : ℕ) (cs : List TableChoice) (k : ℕ) → AllByRecursion (ChoiceRight s count) cs → P (given b place (slice_get cs k) old new)
     given_by s count each false place cs k all = nought
     given_by s count each true place cs k all = from (slice_get cs k) refl
       where

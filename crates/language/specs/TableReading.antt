@@ -5,7 +5,7 @@ use Rattle.std.proofs.Common.{sym, ◌∙◌}
 use native.Mathlib.Omega.{arith}
 use Rattle.std.proofs.lemmas.List.{length-append, length-take-le, length-drop}
 use Rattle.std.proofs.lemmas.Bool.{and_parts, eqb-true, leb-true}
-use Rattle.std.specs.List.{flat_map, AllByRecursion as All, slice_get}
+use Rattle.std.specs.List.{flat_map, AllByRecursion, slice_get}
 use Rattle.model.specs.declared.Kind.{Kind}
 use Rattle.model.specs.declared.Kind.TheVariants.{Private, Interface, External}
 use Rattle.model.specs.declared.Round.TheVariants.{Initial, Update}
@@ -264,11 +264,11 @@ number_item_read s bs k x end e =
 
 -- ---- choices, atoms, tables
 
-pub many_read : {X : Type 0} (read : List ℕ → ℕ → Step X) (form : X → List ℕ) (P : X → Type 0) → ((bs : List ℕ) (k : ℕ) (x : X) (end : ℕ) → read bs k ≡ fine x end → Got bs k (form x) (P x) end) → (n : ℕ) (bs : List ℕ) (k : ℕ) (xs : List X) (end : ℕ) → many read n bs k ≡ fine xs end → Got bs k (flat_map form xs) ((length xs ≡ n) × All P xs) end
+pub many_read : {X : Type 0} (read : List ℕ → ℕ → Step X) (form : X → List ℕ) (P : X → Type 0) → ((bs : List ℕ) (k : ℕ) (x : X) (end : ℕ) → read bs k ≡ fine x end → Got bs k (form x) (P x) end) → (n : ℕ) (bs : List ℕ) (k : ℕ) (xs : List X) (end : ℕ) → many read n bs k ≡ fine xs end → Got bs k (flat_map form xs) ((length xs ≡ n) × AllByRecursion P xs) end
 unfolding many
 many_read read form P is zero bs k xs end e =
     let same : [] ≡ xs = cc in let ends : k ≡ end = cc in
-    subst (λ l. Got bs k (flat_map form l) ((length l ≡ 0) × All P l) end) same (record { stands = tt; ends = omega arith; holds = (refl, tt) })
+    subst (λ l. Got bs k (flat_map form l) ((length l ≡ 0) × AllByRecursion P l) end) same (record { stands = tt; ends = omega arith; holds = (refl, tt) })
 many_read read form P is (suc n) bs k xs end e =
     let r = then_read (read bs k) (λ x next. and_then (many read n bs next) (λ xs end. fine (x ∷ xs) end)) xs end e in
     let q = then_read (many read n bs r.place) (λ xs end. fine (r.first ∷ xs) end) xs end r.rest_read in
@@ -276,7 +276,7 @@ many_read read form P is (suc n) bs k xs end e =
     let same : r.first ∷ q.first ≡ xs = cc last in let ends : q.place ≡ end = cc last in
     let first = is bs k r.first r.place r.first_read in
     let rest = many_read read form P is n bs r.place q.first q.place q.first_read in
-    subst (λ l. Got bs k (flat_map form l) ((length l ≡ suc n) × All P l) end) same
+    subst (λ l. Got bs k (flat_map form l) ((length l ≡ suc n) × AllByRecursion P l) end) same
     (record {
       stands = stands_append bs k r.place (form r.first) (flat_map form q.first) first.ends first.stands rest.stands;
       ends = omega (arith, ends, first.ends, rest.ends, length-append (form r.first) (flat_map form q.first));

@@ -1,6 +1,6 @@
 -- Byte tables: what they say, how they are written, how they are opened, and what they mean. Assumes nothing.
 use Rattle.std.specs.Prelude.{◌≡◌, ℕ, zero, suc, ◌+◌, ◌*◌, ◌/◌, ◌%◌, ◌^◌, ◌<◌, ◌≤◌, Bool, true, false, cond, ◌&&◌, List, [], ◌∷◌, ◌++◌, length, take, drop, ℤ, pos, is_some, Some, None, Option, ◌==◌, nat_le, nat_lt}
-use Rattle.std.specs.List.{flat_map, AllByRecursion as All, slice_get}
+use Rattle.std.specs.List.{flat_map, AllByRecursion, slice_get}
 use Rattle.model.specs.Meanings.{Valuation, OutlineFacts, ChoiceFacts}
 use Rattle.model.specs.Tests.{every, some, implies}
 use Rattle.model.specs.declared.Fault.{Fault}
@@ -134,13 +134,13 @@ pub record NumberFits (s : Seen) (e : Number) : Type 0 where
 pub record ChoiceRight (s : Seen) (count : ℕ) (c : TableChoice) : Type 0 where
   pub guard_fits : TruthFits s c.guard
   pub gives_count : length c.gives ≡ count
-  pub gives_fit : All (NumberFits s) c.gives
+  pub gives_fit : AllByRecursion (NumberFits s) c.gives
 
 -- 1 to 8 right choices
 pub record ChoicesRight (s : Seen) (count : ℕ) (cs : List TableChoice) : Type 0 where
   pub some_choice : 1 ≤ length cs
   pub few_choices : length cs ≤ 8
-  pub each : All (ChoiceRight s count) cs
+  pub each : AllByRecursion (ChoiceRight s count) cs
 
 pub record AtomRight (vs : List TableVariable) (a : TableAtom) : Type 0 where
   pub controls_word : a.controls < 2 ^ 32
@@ -156,7 +156,7 @@ pub record TableRight (t : TableSyntax) : Type 0 where
   pub few_variables : length t.variables ≤ 32
   pub variables_right : VariablesRight 0 t.variables
   pub few_atoms : length t.atoms ≤ 16
-  pub atoms_right : All (AtomRight t.variables) t.atoms
+  pub atoms_right : AllByRecursion (AtomRight t.variables) t.atoms
 
 -- ---- opening
 
