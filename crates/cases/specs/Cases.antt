@@ -1,5 +1,5 @@
 -- Worked cases: what is asked, and the four numbers that the definitions answer it with. Assumes nothing.
-use Rattle.std.specs.Prelude.{ℕ, List, [], ◌∷◌, ◌++◌, map, take, set, replicate, Some, None, Option, slice_set}
+use Rattle.std.specs.Prelude.{ℕ, List, [], ◌∷◌, ◌++◌, take, replicate, Some, None, Option, slice_set}
 use Rattle.std.specs.List.{flat_map}
 use Rattle.composition.specs.Meanings as piles
 use Rattle.gates.specs.OpenedLaws.{gates_meaning}

@@ -1,7 +1,6 @@
 -- What the worked cases show. Assumes nothing.
-use Rattle.std.specs.Prelude.{◌≡◌, ℕ, List, map}
+use Rattle.std.specs.Prelude.{◌≡◌, map}
 use Rattle.composition.specs.Meanings.{joined}
-use Rattle.model.specs.Meanings.{Meaning}
 use Rattle.cases.specs.Cases.{Case, answered, certified, refuted, told, wires, cases, inverter, always_on, off_at_1}
 
 -- every case is answered as it should be
