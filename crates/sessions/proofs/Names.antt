@@ -1,15 +1,13 @@
 -- What names stand for after some are used up and one is given. Assumes nothing.
-use Rattle.std.proofs.Common.{◌≡◌, ℕ, Bool, true, false, cond, ◌||◌, ◌⊎◌, List, [], ◌∷◌, Some, None, Ok, Err, Option, Result, Box, sym, refl, ap, ◌∙◌, inl, inr, arith, MatchResult}
-use Rattle.std.proofs.StringKeys.Lists.{other-bytes}
+use Rattle.std.proofs.Common.{◌≡◌, ℕ, Bool, true, false, cond, ◌||◌, ◌⊎◌, List, [], ◌∷◌, Some, None, Ok, Err, Result, sym, refl, ap, ◌∙◌, inr, rules, MatchResult}
+use Rattle.std.proofs.lemmas.Bool.{false_from_ne_true}
+use Rattle.std.proofs.lemmas.Slice.Eq.{bytes_eq-Decides}
 use Rattle.std.specs.Str.{bytes_eq as same_text}
-use Rattle.std.specs.declared.alloc.Global.{Global}
 use Rattle.commands.specs.declared.mistake.Mistake.{Mistake}
 use Rattle.commands.specs.declared.mistake.Mistake.TheVariants.{NoMemory}
 use Rattle.sessions.specs.Things.{meant, Puts, Same, Takes, Stands, Gone, Replaces}
 use Rattle.sessions.specs.declared.drawn.Drawn.{Drawn}
 use Rattle.sessions.specs.declared.made.Made.{Made}
-use Rattle.sessions.specs.declared.made.Made.TheVariants.{Drawing, SealedUnit}
-use Rattle.sessions.specs.declared.sealed.Sealed.{Sealed}
 use Rattle.sessions.specs.declared.things.Things.{Things}
 
 none_of : {X : Type 0} (a : Bool) (x : X) → cond (a || false) x x ≡ x
@@ -40,16 +38,8 @@ pub replaced : {X : Type 0} (old mid new : Things) (used : List (List ℕ)) (nam
 replaced old mid new used name P thing (Ok x) g p puts = (thing, p, λ w. puts w ∙ ap (cond (same_text w name) (Some thing)) (g w))
 replaced old mid new used name P thing (Err e) g p same = inr (same.0, λ w. same.1 w ∙ g w)
 
-abbrev tag : Option Made → ℕ
-tag None = 0
-tag (Some (Drawing d)) = 1
-tag (Some (SealedUnit u)) = 2
-
-pub not_none : (o : Option Made) (d : Drawn) → None ≡ o → o ≡ Some (Drawing d) → ⊥
-not_none o d e f = let z : ◌≡◌ {A = ℕ} 0 1 = ap tag (e ∙ f) in absurd (omega arith)
-
-pub not_sealed : (o : Option Made) (u : Box Sealed Global) (d : Drawn) → Some (SealedUnit u) ≡ o → o ≡ Some (Drawing d) → ⊥
-not_sealed o u d e f = let z : ◌≡◌ {A = ℕ} 2 1 = ap tag (e ∙ f) in absurd (omega arith)
+other_text : (xs ys : List ℕ) → (xs ≡ ys → ⊥) → same_text xs ys ≡ false
+other_text xs ys h = false_from_ne_true (same_text xs ys) (λ e. let same : xs ≡ ys = search (rules, bytes_eq-Decides) in h same)
 
 pub stands_still : (old new : Things) (left right : List ℕ) (d : Drawn) → Takes old new left → (left ≡ right → ⊥) → Stands old right d → Stands new right d
-stands_still old new left right d t apart s = t right ∙ ap (λ b. cond b None (meant old right)) (other-bytes right left (λ e. apart (sym e))) ∙ s
+stands_still old new left right d t apart s = t right ∙ ap (λ b. cond b None (meant old right)) (other_text right left (λ e. apart (sym e))) ∙ s

@@ -7,7 +7,6 @@ use native.Mathlib.Nat.{ℕ_set}
 use Rattle.any_drawing.specs.Whole.{Whole}
 use Rattle.any_drawing.specs.declared.AnyDrawing.{AnyDrawing}
 use Rattle.any_drawing.specs.declared.AnyDrawing.TheVariants.{Table, Gates, Join', Rename', Hide'}
-use Rattle.piles.specs.Whole.{WholeJoin, WholeRename, WholeHide}
 use Rattle.model.specs.Meanings.{Meaning}
 use Rattle.unit.specs.Kept.{WholeUnit}
 use Rattle.unit.specs.declared.kept.Core.{Core}

@@ -4,5 +4,5 @@ use Rattle.sessions.proofs.session.table_of.Goals as goal
 
 pub returns : goal.returns
 returns g c =
-    let means = rw c.as-slice.ensures.value at c.in-ok-table.ensures in
-    by_source MeansTable c.args.source c.in-ok-bytes.bytes c.in-ok-table.field-0 c.in-ok-bytes.ensures means
+    let means = rw c.as_slice.ensures.value at c.in_ok-table.ensures in
+    by_source MeansTable c.args.source c.in_ok-bytes.bytes c.in_ok-table.field-0 c.in_ok-bytes.ensures means

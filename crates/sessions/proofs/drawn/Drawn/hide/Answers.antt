@@ -4,5 +4,5 @@ use Rattle.sessions.proofs.drawn.Drawn.hide.Goals as goal
 pub hide-requires : goal.hide-requires
 hide-requires c = whole_again _ c.args.below.whole
 
-pub invariant-of-result : goal.invariant-of-result
-invariant-of-result c = (∣ c.in-ok-drawing.ensures.whole ∣₁, tt)
+pub invariant_of-result : goal.invariant_of-result
+invariant_of-result c = record { whole = ∣ c.in_ok-drawing.ensures.whole ∣₁ }

@@ -1,4 +1,4 @@
 use Rattle.sessions.proofs.drawn.Drawn.table.Goals as goal
 
-pub invariant-of-result : goal.invariant-of-result
-invariant-of-result c = (∣ c.in-ok-drawing.ensures.whole ∣₁, tt)
+pub invariant_of-result : goal.invariant_of-result
+invariant_of-result c = record { whole = ∣ c.in_ok-drawing.ensures.whole ∣₁ }

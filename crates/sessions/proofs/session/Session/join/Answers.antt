@@ -9,14 +9,14 @@ returns c =
     let old = c.args.self.now.things in
     let left = string_bytes c.args.left in
     let right = string_bytes c.args.right in
-    let two = rw (c.as-str.ensures.value, c.as-str-2.ensures.value) at c.in-ok-left.ensures in
-    let made : Joins old left right (Drawing c.in-ok-joined.joined) =
+    let two = rw (c.as_str.ensures.value, c.as_str-2.ensures.value) at c.in_ok-left.ensures in
+    let made : Joins old left right (Drawing c.in_ok-joined.joined) =
     record {
       apart = two.apart;
-      left_drawing = c.in-ok-left.left;
+      left_drawing = c.in_ok-left.left;
       left_stands = two.left_stood;
-      right_drawing = c.in-ok-left.right;
+      right_drawing = c.in_ok-left.right;
       right_stands = two.right_stood;
-      joins = c.in-ok-joined.ensures;
+      joins = c.in_ok-joined.ensures;
     } in
-    replaced old c.take-two.new.self c.keep.new.self.things (left ∷ right ∷ []) (string_bytes c.args.name) (Joins old left right) (Drawing c.in-ok-joined.joined) c.keep.result two.gone made c.keep.ensures
+    replaced old c.take_two.new.self c.keep.new.self.things (left ∷ right ∷ []) (string_bytes c.args.name) (Joins old left right) (Drawing c.in_ok-joined.joined) c.keep.result two.gone made c.keep.ensures

@@ -9,11 +9,11 @@ pub returns : goal.returns
 returns c =
     let old = c.args.self.now.things in
     let name = string_bytes c.args.drawing in
-    let taken = rw c.as-str.ensures.value at c.in-ok-drawn.ensures in
-    let made : Seals old name c.args.number (SealedUnit c.in-ok-sealed.sealed) =
+    let taken = rw c.as_str.ensures.value at c.in_ok-drawn.ensures in
+    let made : Seals old name c.args.number (SealedUnit c.in_ok-sealed.sealed) =
     record {
-      drawing = c.in-ok-drawn.drawn;
+      drawing = c.in_ok-drawn.drawn;
       stands = taken.0;
-      sealed = ap unit_of c.in-ok-sealed.ensures.ok ∙ c.seal.ensures;
+      sealed = ap unit_of c.in_ok-sealed.ensures.ok ∙ c.seal.ensures;
     } in
-    replaced old c.take.new.self c.keep.new.self.things (name ∷ []) (string_bytes c.args.name) (Seals old name c.args.number) (SealedUnit c.in-ok-sealed.sealed) c.keep.result (gone_one old c.take.new.self name taken.1) made c.keep.ensures
+    replaced old c.take.new.self c.keep.new.self.things (name ∷ []) (string_bytes c.args.name) (Seals old name c.args.number) (SealedUnit c.in_ok-sealed.sealed) c.keep.result (gone_one old c.take.new.self name taken.1) made c.keep.ensures
