@@ -1,4 +1,4 @@
-use Rattle.std.proofs.Common.{get_or, vec_items, sym, refl, subst, arith, below_more}
+use Rattle.std.proofs.Common.{get_or, vec_items, sym, refl, subst, arith, below_more, rules}
 use Rattle.script.specs.Told.{DescribesAtom}
 use Rattle.script.proofs.facts.atoms.Goals as goal
 
@@ -14,11 +14,11 @@ loop-atom-preserved g c =
           (λ i h. subst (DescribesAtom o acts i) (sym (pushed.by_index.0 i d (omega arith))) (c.loop-atom.invariant.1 i d h))
           (subst (DescribesAtom o acts atom) (sym (rw c.loop-atom.invariant.0 at (pushed.by_index.1 d refl)))
           (record {
-            controls = c.controls.ensures;
-            reads = c.reads.ensures;
-            awaits = c.awaits.ensures;
-            initial = c.choices.ensures.told;
-            update = c.choices-in-loop-atom.ensures.told;
+            controls = search rules;
+            reads = search rules;
+            awaits = search rules;
+            initial = search rules;
+            update = search rules;
           }))
           a,
     )
