@@ -5,6 +5,7 @@ use commands::{FileBytes, Mistake};
 use sessions::Session;
 use std::fs::File;
 use std::io::{BufRead, BufReader};
+use std::process::ExitCode;
 use std::{env, fs, io};
 
 // The files of the system.
@@ -22,10 +23,6 @@ impl FileBytes for Disk<'_> {
         }
     }
 }
-
-// Ends the program with status 1. What went wrong has been told.
-#[derive(Drop)]
-struct Failed;
 
 // Runs the lines in turn, and tells whether all were right.
 fn run_lines<S: BufRead + Drop>(rt: &HostRuntime, script: S) -> io::Result<bool> {
@@ -59,13 +56,14 @@ fn run_script(rt: &HostRuntime) -> io::Result<bool> {
     }
 }
 
-fn main(rt: HostRuntime) -> Result<(), Failed> {
+// Ends with status 1 where a line was refused or the script cannot be run. What went wrong has been told then.
+fn main(rt: HostRuntime) -> ExitCode {
     match run_script(&rt) {
-        Ok(true) => Ok(()),
-        Ok(false) => Err(Failed),
+        Ok(true) => ExitCode::SUCCESS,
+        Ok(false) => ExitCode::FAILURE,
         Err(e) => {
             let _ = eprintln!(rt; "error: the script cannot be run: {e}");
-            Err(Failed)
+            ExitCode::FAILURE
         }
     }
 }
