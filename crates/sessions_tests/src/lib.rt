@@ -6,7 +6,7 @@ mod answers;
 #[cfg(test)]
 mod hex;
 #[cfg(test)]
-mod piles;
+mod piling;
 #[cfg(test)]
 mod running;
 #[cfg(test)]
