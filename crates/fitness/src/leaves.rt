@@ -15,7 +15,7 @@ fn is_outside(top: u8, given: i16) -> bool
 
 fn some_open<D: Drawing>(drawing: &D, look: &Look, rows: &Rows) -> bool
     requires { D.Outline.whole drawing.now }
-    ensures { result ≡ some (open_at (D.Drawing.meaning drawing.now).acts look.now.round look.now.atom rows.entry.now.old rows.entry.now.new) ((D.Drawing.meaning drawing.now).acts.choices look.now.round look.now.atom) }
+    ensures { result ≡ some (open_at (D.Drawing.meaning drawing.now).acts look.now.round look.now.atom rows.now.old rows.now.new) ((D.Drawing.meaning drawing.now).acts.choices look.now.round look.now.atom) }
 {
     for choice in 0..drawing.choices(look.round, look.atom) {
         if drawing.is_open(look.round, look.atom, choice, rows.old, rows.new) {
@@ -27,7 +27,7 @@ fn some_open<D: Drawing>(drawing: &D, look: &Look, rows: &Rows) -> bool
 
 fn gives_wrong<D: Drawing>(drawing: &D, look: &Look, rows: &Rows, choice: u8, name: u8) -> bool
     requires { D.Outline.whole drawing.now }
-    ensures { result ≡ wrong_name (D.Outline.outline drawing.now) (D.Drawing.meaning drawing.now).acts look.now.round look.now.atom rows.entry.now.old rows.entry.now.new choice name }
+    ensures { result ≡ wrong_name (D.Outline.outline drawing.now) (D.Drawing.meaning drawing.now).acts look.now.round look.now.atom rows.now.old rows.now.new choice name }
 {
     drawing.controls(look.atom).has(name)
         && is_outside(
@@ -38,7 +38,7 @@ fn gives_wrong<D: Drawing>(drawing: &D, look: &Look, rows: &Rows, choice: u8, na
 
 fn some_wrong_name<D: Drawing>(drawing: &D, look: &Look, rows: &Rows, choice: u8) -> bool
     requires { D.Outline.whole drawing.now }
-    ensures { result ≡ some (wrong_name (D.Outline.outline drawing.now) (D.Drawing.meaning drawing.now).acts look.now.round look.now.atom rows.entry.now.old rows.entry.now.new choice) 32 }
+    ensures { result ≡ some (wrong_name (D.Outline.outline drawing.now) (D.Drawing.meaning drawing.now).acts look.now.round look.now.atom rows.now.old rows.now.new choice) 32 }
 {
     for name in 0..32 {
         if gives_wrong(drawing, look, rows, choice, name) {
@@ -50,7 +50,7 @@ fn some_wrong_name<D: Drawing>(drawing: &D, look: &Look, rows: &Rows, choice: u8
 
 fn is_wrong<D: Drawing>(drawing: &D, look: &Look, rows: &Rows, choice: u8) -> bool
     requires { D.Outline.whole drawing.now }
-    ensures { result ≡ wrong_choice (D.Outline.outline drawing.now) (D.Drawing.meaning drawing.now).acts look.now.round look.now.atom rows.entry.now.old rows.entry.now.new choice }
+    ensures { result ≡ wrong_choice (D.Outline.outline drawing.now) (D.Drawing.meaning drawing.now).acts look.now.round look.now.atom rows.now.old rows.now.new choice }
 {
     drawing.is_open(look.round, look.atom, choice, rows.old, rows.new)
         && some_wrong_name(drawing, look, rows, choice)
@@ -58,7 +58,7 @@ fn is_wrong<D: Drawing>(drawing: &D, look: &Look, rows: &Rows, choice: u8) -> bo
 
 fn some_wrong<D: Drawing>(drawing: &D, look: &Look, rows: &Rows) -> bool
     requires { D.Outline.whole drawing.now }
-    ensures { result ≡ some (wrong_choice (D.Outline.outline drawing.now) (D.Drawing.meaning drawing.now).acts look.now.round look.now.atom rows.entry.now.old rows.entry.now.new) ((D.Drawing.meaning drawing.now).acts.choices look.now.round look.now.atom) }
+    ensures { result ≡ some (wrong_choice (D.Outline.outline drawing.now) (D.Drawing.meaning drawing.now).acts look.now.round look.now.atom rows.now.old rows.now.new) ((D.Drawing.meaning drawing.now).acts.choices look.now.round look.now.atom) }
 {
     for choice in 0..drawing.choices(look.round, look.atom) {
         if is_wrong(drawing, look, rows, choice) {
@@ -71,7 +71,7 @@ fn some_wrong<D: Drawing>(drawing: &D, look: &Look, rows: &Rows) -> bool
 // Do these values pass the test that is looked for?
 pub fn passes<D: Drawing>(drawing: &D, look: &Look, rows: &Rows) -> bool
     requires { D.Outline.whole drawing.now }
-    ensures { result ≡ tested look.now.test (D.Outline.outline drawing.now) (D.Drawing.meaning drawing.now).acts look.now.round look.now.atom (rows.entry.now.old, rows.entry.now.new) }
+    ensures { result ≡ tested look.now.test (D.Outline.outline drawing.now) (D.Drawing.meaning drawing.now).acts look.now.round look.now.atom (rows.now.old, rows.now.new) }
 {
     match look.test {
         Test::NothingOpen => !some_open(drawing, look, rows),

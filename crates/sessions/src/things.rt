@@ -1,4 +1,8 @@
 // What the names of a script stand for.
+ghost use Rattle.std.proofs.Props.{props};
+ghost use Rattle.std.specs.BTreeMap.{IsOrdered};
+ghost use Rattle.std.specs.String.{string_cmp};
+
 use crate::made::Made;
 use std::collections::BTreeMap;
 
@@ -7,4 +11,5 @@ mod methods;
 #[derive(Drop)]
 pub struct Things {
     map: BTreeMap<String, Made>,
+    ghost lawful: { IsOrdered string_cmp map } by { Prim.hlevel props },
 }

@@ -17,14 +17,14 @@ fn is_outside(top: u8, given: i16) -> bool
 
 fn is_open<D: Drawing>(drawing: &D, look: &Look, sight: &Sight, choice: u8) -> bool
     requires { D.Outline.whole drawing.now }
-    ensures { result ≡ open_at (D.Drawing.meaning drawing.now).acts look.now sight.entry.now choice }
+    ensures { result ≡ open_at (D.Drawing.meaning drawing.now).acts look.now sight.now choice }
 {
     drawing.is_open(sight.round, look.atom, choice, sight.old, sight.new)
 }
 
 fn some_open<D: Drawing>(drawing: &D, look: &Look, sight: &Sight) -> bool
     requires { D.Outline.whole drawing.now }
-    ensures { result ≡ some (open_at (D.Drawing.meaning drawing.now).acts look.now sight.entry.now) look.now.choices }
+    ensures { result ≡ some (open_at (D.Drawing.meaning drawing.now).acts look.now sight.now) look.now.choices }
 {
     for choice in 0..look.choices {
         if is_open(drawing, look, sight, choice) {
@@ -36,7 +36,7 @@ fn some_open<D: Drawing>(drawing: &D, look: &Look, sight: &Sight) -> bool
 
 fn gives_wrong<D: Drawing>(drawing: &D, look: &Look, sight: &Sight, choice: u8, name: u8) -> bool
     requires { D.Outline.whole drawing.now }
-    ensures { result ≡ wrong_name (D.Drawing.meaning drawing.now).acts look.now sight.entry.now choice name }
+    ensures { result ≡ wrong_name (D.Drawing.meaning drawing.now).acts look.now sight.now choice name }
 {
     look.controlled.has(name)
         && is_outside(
@@ -47,7 +47,7 @@ fn gives_wrong<D: Drawing>(drawing: &D, look: &Look, sight: &Sight, choice: u8, 
 
 fn some_wrong_name<D: Drawing>(drawing: &D, look: &Look, sight: &Sight, choice: u8) -> bool
     requires { D.Outline.whole drawing.now }
-    ensures { result ≡ some (wrong_name (D.Drawing.meaning drawing.now).acts look.now sight.entry.now choice) 32 }
+    ensures { result ≡ some (wrong_name (D.Drawing.meaning drawing.now).acts look.now sight.now choice) 32 }
 {
     for name in 0..32 {
         if gives_wrong(drawing, look, sight, choice, name) {
@@ -59,14 +59,14 @@ fn some_wrong_name<D: Drawing>(drawing: &D, look: &Look, sight: &Sight, choice: 
 
 fn is_wrong<D: Drawing>(drawing: &D, look: &Look, sight: &Sight, choice: u8) -> bool
     requires { D.Outline.whole drawing.now }
-    ensures { result ≡ wrong_choice (D.Drawing.meaning drawing.now).acts look.now sight.entry.now choice }
+    ensures { result ≡ wrong_choice (D.Drawing.meaning drawing.now).acts look.now sight.now choice }
 {
     is_open(drawing, look, sight, choice) && some_wrong_name(drawing, look, sight, choice)
 }
 
 fn some_wrong<D: Drawing>(drawing: &D, look: &Look, sight: &Sight) -> bool
     requires { D.Outline.whole drawing.now }
-    ensures { result ≡ some (wrong_choice (D.Drawing.meaning drawing.now).acts look.now sight.entry.now) look.now.choices }
+    ensures { result ≡ some (wrong_choice (D.Drawing.meaning drawing.now).acts look.now sight.now) look.now.choices }
 {
     for choice in 0..look.choices {
         if is_wrong(drawing, look, sight, choice) {
@@ -79,7 +79,7 @@ fn some_wrong<D: Drawing>(drawing: &D, look: &Look, sight: &Sight) -> bool
 // Is what is looked for so at these values?
 pub fn passes<D: Drawing>(drawing: &D, look: &Look, sight: &Sight) -> bool
     requires { D.Outline.whole drawing.now }
-    ensures { result ≡ looked look.now.test (D.Drawing.meaning drawing.now).acts look.now sight.entry.now }
+    ensures { result ≡ looked look.now.test (D.Drawing.meaning drawing.now).acts look.now sight.now }
 {
     match look.test {
         Test::NothingOpen => !some_open(drawing, look, sight),

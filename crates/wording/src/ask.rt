@@ -32,7 +32,7 @@ pub struct Reply {
 // Whether the choice is open, and what it gives to each name that its atom controls, names rising.
 pub fn reply_to<D: Drawing>(heap: Global, drawing: &D, q: &Question) -> Result<Reply, AllocError>
     requires { D.Outline.whole drawing.now }
-    ensures { IfOk result (λ x. Replies (D.Outline.outline drawing.now) (D.Drawing.meaning drawing.now).acts q.entry.now x) }
+    ensures { IfOk result (λ x. Replies (D.Outline.outline drawing.now) (D.Drawing.meaning drawing.now).acts q.now x) }
 {
     let open = drawing.is_open(q.round, q.atom, q.choice, q.old, q.new);
     let controls = drawing.controls(q.atom);

@@ -6,7 +6,7 @@ use Rattle.expression.specs.Evaluation.{everything, valued, number_worth}
 use Rattle.expression.specs.Operators.{number_operator_of}
 use Rattle.expression.specs.declared.operators.NumberOperator.TheVariants.{Constant, OldValue, NewValue, Sum, Difference}
 use Rattle.expression.proofs.Steps.{number_none, number_stops, number_goes, operator_inside}
-use Rattle.expression.proofs.Worths.{constant_worth, old_worth, new_worth, two_none, two_cut, two_worth, room, sum_fits, sum_is, difference_fits, difference_is}
+use Rattle.expression.proofs.Worths.{constant_worth, old_worth, new_worth, two_none, two_cut, two_worth, Room, room, sum_fits, sum_is, difference_fits, difference_is}
 use Rattle.expression.proofs.evaluation.+number_at.Goals as goal
 
 pub returns-then-levels-eq0 : goal.returns-then-levels-eq0
@@ -67,9 +67,9 @@ returns-in_err-b-in-Difference t c =
 pub overflow_sub-result : goal.overflow_sub-result
 overflow_sub-result t c =
     let old : Bytes (value c.args.old) = search rules in let new : Bytes (value c.args.new) = search rules in
-    difference_fits c.in_ok-a-in-Difference.a c.in_ok-b-in-Difference.b
-    (room (c.args.levels - 1) c.args.bytes.now c.args.old c.args.new _ _ _ (omega arith) old new c.in_ok-a-in-Difference.ensures)
-    (room (c.args.levels - 1) c.args.bytes.now c.args.old c.args.new _ _ _ (omega arith) old new c.in_ok-b-in-Difference.ensures)
+    let first : Room c.in_ok-a-in-Difference.a = room (c.args.levels - 1) c.args.bytes.now c.args.old c.args.new _ _ _ (omega arith) old new c.in_ok-a-in-Difference.ensures in
+    let second : Room c.in_ok-b-in-Difference.b = room (c.args.levels - 1) c.args.bytes.now c.args.old c.args.new _ _ _ (omega arith) old new c.in_ok-b-in-Difference.ensures in
+    search (difference_fits)
 
 pub returns-in_ok-b-in-Difference : goal.returns-in_ok-b-in-Difference
 returns-in_ok-b-in-Difference t c =

@@ -1,12 +1,10 @@
-use Rattle.std.proofs.Common.{ℕ, ℤ, pos, w16, sym, ap, ◌∙◌}
-use borrow.Author.Rules.{to_z-of_z_to, sfits_of}
+use Rattle.std.proofs.Common.{pos, sym, ap, ◌∙◌, rules}
 use Rattle.composition.specs.Acts.{seen_below}
 use Rattle.model.specs.Exchange.{exchange}
 use Rattle.composition.specs.Faults.{fault_of_renamed}
 use Rattle.composition.specs.Outlines.{renamed_outline}
-use Rattle.model.specs.Meanings.{Valuation}
 use Rattle.model.specs.States.{value}
-use Rattle.piles.proofs.Verdicts.{nothing_told, all_told}
+use Rattle.piles.proofs.Verdicts.{nothing_told}
 use Rattle.piles.proofs.rename.RenameDrawing.gives.Goals as goal
 
 pub returns-in-Some : goal.returns-in-Some
@@ -22,17 +20,5 @@ returns-in-Some g c =
 
 pub returns-in-None-clause-told : goal.returns-in-None-clause-told
 returns-in-None-clause-told g c =
-    let s = c.args.self.now in
-    let m = g.D.Drawing.meaning s.below in
-    let p = g.met.D.Drawing.agree s.below in
-    let old_below = seen_below s.old s.new (value c.args.old) in
-    let name_below = exchange s.old s.new c.args.name in
-    let gives : ℕ → Valuation → Valuation → ℤ = m.acts.gives c.args.round c.args.atom c.args.choice in
-    let given =
-    to_z-of_z_to w16 c.gives.result (gives c.exchanged-name.result (value c.exchanged_state-old.result) (value c.exchanged_state-new.result)) (sfits_of c.gives.type_inv) c.gives.ensures.told in
-    all_told (c.requires.judged ∙ sym (ap (λ o. fault_of_renamed o s.old s.new) p)) (pos 0) c.in-None.is
-    (
-    given ∙ ap (λ n. gives n (value c.exchanged_state-old.result) (value c.exchanged_state-new.result)) c.exchanged-name.ensures
-    ∙ ap (λ v. gives name_below v (value c.exchanged_state-new.result)) c.exchanged_state-old.ensures
-    ∙ ap (gives name_below old_below) c.exchanged_state-new.ensures
-    )
+    let told = rw (c.exchanged-name.ensures, c.exchanged_state-old.ensures, c.exchanged_state-new.ensures) at c.gives.ensures.told in
+    search rules
