@@ -1,3 +1,4 @@
 pub mod Leaves
 pub mod Meaning
+pub mod Trees
 pub mod Whole

@@ -1,12 +1,34 @@
--- What a drawing that may be any pile keeps from the call that made it on, in each of its layers. Assumes nothing.
-use Rattle.piles.specs.Whole.{WholeJoin, WholeRename, WholeHide}
-use Rattle.any_drawing.specs.Meaning.{any_outline}
-use Rattle.any_drawing.specs.declared.AnyDrawing.{AnyDrawing}
-use Rattle.any_drawing.specs.declared.AnyDrawing.TheVariants.{Table, Gates, Join', Rename', Hide'}
+-- What a tree of layers keeps from the calls that made it on: in each layer its parts are whole, and what stands beside
+-- them is what was judged of them. Assumes nothing.
+use Rattle.std.specs.Prelude.{◌≡◌, ℕ, ◌<◌, None, Option}
+use Rattle.model.specs.Meanings.{OutlineFacts}
+use Rattle.model.specs.declared.Fault.{Fault}
+use Rattle.composition.specs.Faults.{fault_of_renamed, fault_of_hidden, fault_of_joined}
+use Rattle.any_drawing.specs.Trees.{tree_outline}
+use Rattle.any_drawing.specs.declared.tree.Tree.{Tree}
+use Rattle.any_drawing.specs.declared.tree.Tree.TheVariants.{Table, Gates, Join', Rename', Hide'}
 
-abbrev pub Whole : AnyDrawing → Type 0
+-- a join, with its fault and how many atoms the left part has
+pub record WholeJoin (left right : Type 0) (l r : OutlineFacts) (fault : Option Fault) (count : ℕ) : Type 0 where
+  pub left_whole : left
+  pub right_whole : right
+  pub judged : fault ≡ fault_of_joined l r
+  pub counted : count ≡ l.atoms
+
+-- a rename of a to b, which are names where there is no fault
+pub record WholeRename (below : Type 0) (o : OutlineFacts) (a b : ℕ) (fault : Option Fault) : Type 0 where
+  pub below_whole : below
+  pub judged : fault ≡ fault_of_renamed o a b
+  pub old_name : fault ≡ None → a < 32
+  pub new_name : fault ≡ None → b < 32
+
+pub record WholeHide (below : Type 0) (o : OutlineFacts) (name : ℕ) (fault : Option Fault) : Type 0 where
+  pub below_whole : below
+  pub judged : fault ≡ fault_of_hidden o name
+
+abbrev pub Whole : Tree → Type 0
 Whole (Table table) = Unit {0}
 Whole (Gates list) = Unit {0}
-Whole (Join' p left q right fault count) = WholeJoin (Whole left) (Whole right) (any_outline left) (any_outline right) fault count
-Whole (Rename' p below old new fault) = WholeRename (Whole below) (any_outline below) old new fault
-Whole (Hide' p below name fault) = WholeHide (Whole below) (any_outline below) name fault
+Whole (Join' p left q right fault count) = WholeJoin (Whole left) (Whole right) (tree_outline left) (tree_outline right) fault count
+Whole (Rename' p below old new fault) = WholeRename (Whole below) (tree_outline below) old new fault
+Whole (Hide' p below name fault) = WholeHide (Whole below) (tree_outline below) name fault

@@ -1,34 +1,18 @@
 // One type for every drawing: a leaf, or a pile of such drawings. What is piled is decided while a program runs.
 #![tactic(auto)]
 
+ghost use Rattle.any_drawing.specs.Whole.{Whole};
+
 mod drawn;
+mod kept;
 mod making;
+mod tree;
 
-use gates::GateList;
-use model::Fault;
-use table::Table;
+pub use tree::Tree;
 
-// A pile keeps its fault, and a join how many atoms its left part has, as they were when it was made. Whoever goes
-// through a pile reads its layers here; only the calls that make a drawing give one that may be asked.
+// A tree of layers, each of which keeps what was judged of its parts when it was made.
 #[derive(Drop)]
-pub enum AnyDrawing {
-    Table(Box<Table>),
-    Gates(Box<GateList>),
-    Join {
-        left: Box<AnyDrawing>,
-        right: Box<AnyDrawing>,
-        fault: Option<Fault>,
-        left_atoms: u8,
-    },
-    Rename {
-        below: Box<AnyDrawing>,
-        old: u8,
-        new: u8,
-        fault: Option<Fault>,
-    },
-    Hide {
-        below: Box<AnyDrawing>,
-        name: u8,
-        fault: Option<Fault>,
-    },
+pub struct AnyDrawing {
+    tree: Tree,
+    ghost whole: { ∥ Whole tree ∥₁ },
 }

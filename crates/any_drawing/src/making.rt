@@ -2,12 +2,11 @@
 // is wanting, the parts are let go.
 ghost use Rattle.any_drawing.specs.Leaves.{MeansGates, MeansTable};
 ghost use Rattle.any_drawing.specs.Meaning.{any_meaning};
-ghost use Rattle.any_drawing.specs.Whole.{Whole};
 ghost use Rattle.composition.specs.Meanings.{renamed, hidden, joined};
 ghost use Rattle.reactive.specs.Piles.{JoinsParts, RenamesPart, HidesPart};
 ghost use Rattle.std.specs.Prelude.{◌≡◌, IfOk, OnOk};
 
-use crate::AnyDrawing;
+use crate::{AnyDrawing, Tree};
 use drawing::Outline;
 use gates::GateList;
 use piles::{hide_fault, join_fault, rename_fault};
@@ -17,40 +16,36 @@ use table::Table;
 impl AnyDrawing {
     // The table that the bytes describe.
     pub fn table(heap: Global, bytes: &[u8]) -> Result<AnyDrawing, AllocError>
-        ensures whole { IfOk result Whole }
         ensures means { IfOk result (λ d. MeansTable bytes.now (any_meaning d)) }
     {
         let table = Box::new(heap, Table::open(bytes))?;
-        Ok(AnyDrawing::Table(table))
+        Ok(AnyDrawing::of(Tree::Table(table)))
     }
 
     // The gate list that the bytes describe.
     pub fn gates(heap: Global, bytes: &[u8]) -> Result<AnyDrawing, AllocError>
-        ensures whole { IfOk result Whole }
         ensures means { IfOk result (λ d. MeansGates bytes.now (any_meaning d)) }
     {
         let list = Box::new(heap, GateList::open(bytes))?;
-        Ok(AnyDrawing::Gates(list))
+        Ok(AnyDrawing::of(Tree::Gates(list)))
     }
 
     // The two side by side. Atoms of the left part come first.
     pub fn join(heap: Global, left: AnyDrawing, right: AnyDrawing) -> Result<AnyDrawing, AllocError>
-        requires left { Whole left }
-        requires right { Whole right }
-        ensures whole { IfOk result Whole }
         ensures means { IfOk result (λ d. any_meaning d ≡ joined (any_meaning left) (any_meaning right)) }
         ensures parts { OnOk result (JoinsParts (any_meaning left) (any_meaning right)) }
     {
         let fault = join_fault(&left, &right);
         let left_atoms = left.atoms();
-        let left = Box::new(heap, left)?;
-        let right = Box::new(heap, right)?;
-        Ok(AnyDrawing::Join {
+        let left = Box::new(heap, left.into_tree())?;
+        let right = Box::new(heap, right.into_tree())?;
+        let tree = Tree::Join {
             left,
             right,
             fault,
             left_atoms,
-        })
+        };
+        Ok(AnyDrawing::of(tree))
     }
 
     // The drawing with a new name for one of its variables.
@@ -60,30 +55,28 @@ impl AnyDrawing {
         old: u8,
         new: u8,
     ) -> Result<AnyDrawing, AllocError>
-        requires { Whole below }
-        ensures whole { IfOk result Whole }
         ensures means { IfOk result (λ d. any_meaning d ≡ renamed (any_meaning below) old new) }
         ensures part { OnOk result (RenamesPart (any_meaning below) old new) }
     {
         let fault = rename_fault(&below, old, new);
-        let below = Box::new(heap, below)?;
-        Ok(AnyDrawing::Rename {
+        let below = Box::new(heap, below.into_tree())?;
+        let tree = Tree::Rename {
             below,
             old,
             new,
             fault,
-        })
+        };
+        Ok(AnyDrawing::of(tree))
     }
 
     // The drawing with one of its interface names made private.
     pub fn hide(heap: Global, below: AnyDrawing, name: u8) -> Result<AnyDrawing, AllocError>
-        requires { Whole below }
-        ensures whole { IfOk result Whole }
         ensures means { IfOk result (λ d. any_meaning d ≡ hidden (any_meaning below) name) }
         ensures part { OnOk result (HidesPart (any_meaning below) name) }
     {
         let fault = hide_fault(&below, name);
-        let below = Box::new(heap, below)?;
-        Ok(AnyDrawing::Hide { below, name, fault })
+        let below = Box::new(heap, below.into_tree())?;
+        let tree = Tree::Hide { below, name, fault };
+        Ok(AnyDrawing::of(tree))
     }
 }

@@ -2,10 +2,7 @@
 use drawing::{Drawing, Outline};
 use model::{Names, Round, State};
 
-pub fn alike<A: Drawing, B: Drawing>(a: &A, b: &B) -> bool
-    requires a { A.Outline.whole a.now }
-    requires b { B.Outline.whole b.now }
-{
+pub fn alike<A: Drawing, B: Drawing>(a: &A, b: &B) -> bool {
     a.fault() == b.fault()
         && a.layers() == b.layers()
         && a.atoms() == b.atoms()
@@ -13,63 +10,34 @@ pub fn alike<A: Drawing, B: Drawing>(a: &A, b: &B) -> bool
         && same_atoms(a, b)
 }
 
-fn same_names<A: Outline, B: Outline>(a: &A, b: &B) -> bool
-    requires a { A.Outline.whole a.now }
-    requires b { B.Outline.whole b.now }
-{
-    for name in 0..=255u8 {
-        if a.kind(name) != b.kind(name) || a.top(name) != b.top(name) {
-            return false;
-        }
-    }
-    true
+fn same_names<A: Outline, B: Outline>(a: &A, b: &B) -> bool {
+    (0..=255u8).all(|name| a.kind(name) == b.kind(name) && a.top(name) == b.top(name))
 }
 
-fn same_atoms<A: Drawing, B: Drawing>(a: &A, b: &B) -> bool
-    requires a { A.Outline.whole a.now }
-    requires b { B.Outline.whole b.now }
-{
-    for atom in 0..18u8 {
-        if !same_sets(a, b, atom)
-            || !same_choices(a, b, Round::Initial, atom)
-            || !same_choices(a, b, Round::Update, atom)
-        {
-            return false;
-        }
-    }
-    true
+fn same_atoms<A: Drawing, B: Drawing>(a: &A, b: &B) -> bool {
+    (0..18u8).all(|atom| {
+        same_sets(a, b, atom)
+            && same_choices(a, b, Round::Initial, atom)
+            && same_choices(a, b, Round::Update, atom)
+    })
 }
 
 pub fn same_set(a: Names, b: Names) -> bool {
-    for name in 0..=255u8 {
-        if a.has(name) != b.has(name) {
-            return false;
-        }
-    }
-    true
+    (0..=255u8).all(|name| a.has(name) == b.has(name))
 }
 
-fn same_sets<A: Outline, B: Outline>(a: &A, b: &B, atom: u8) -> bool
-    requires a { A.Outline.whole a.now }
-    requires b { B.Outline.whole b.now }
-{
+fn same_sets<A: Outline, B: Outline>(a: &A, b: &B, atom: u8) -> bool {
     same_set(a.controls(atom), b.controls(atom))
         && same_set(a.reads(atom), b.reads(atom))
         && same_set(a.awaits(atom), b.awaits(atom))
 }
 
-fn same_choices<A: Drawing, B: Drawing>(a: &A, b: &B, round: Round, atom: u8) -> bool
-    requires a { A.Outline.whole a.now }
-    requires b { B.Outline.whole b.now }
-{
-    for choice in 0..9u8 {
-        if !same_choice(a, b, round, atom, choice, [0; 32])
-            || !same_choice(a, b, round, atom, choice, [1; 32])
-        {
-            return false;
-        }
-    }
+fn same_choices<A: Drawing, B: Drawing>(a: &A, b: &B, round: Round, atom: u8) -> bool {
     a.choices(round, atom) == b.choices(round, atom)
+        && (0..9u8).all(|choice| {
+            same_choice(a, b, round, atom, choice, [0; 32])
+                && same_choice(a, b, round, atom, choice, [1; 32])
+        })
 }
 
 // Is the choice open in both or in neither where all new values are these, and does it give the same to every name?
@@ -80,17 +48,11 @@ fn same_choice<A: Drawing, B: Drawing>(
     atom: u8,
     choice: u8,
     new: State,
-) -> bool
-    requires a { A.Outline.whole a.now }
-    requires b { B.Outline.whole b.now }
-{
+) -> bool {
     let old = [0; 32];
-    for name in 0..33u8 {
-        if a.gives(round, atom, choice, name, old, new)
-            != b.gives(round, atom, choice, name, old, new)
-        {
-            return false;
-        }
-    }
     a.is_open(round, atom, choice, old, new) == b.is_open(round, atom, choice, old, new)
+        && (0..33u8).all(|name| {
+            a.gives(round, atom, choice, name, old, new)
+                == b.gives(round, atom, choice, name, old, new)
+        })
 }

@@ -1,8 +1,5 @@
 // Faults at the bottom of deep piles. Layers are counted from the top one, 0, the whole left part first; past 255 is
 // told as 255.
-ghost use Rattle.any_drawing.specs.Whole.{Whole};
-ghost use Rattle.std.specs.Prelude.{IfOk};
-
 use crate::building::*;
 use any_drawing::AnyDrawing;
 use drawing::Outline;
@@ -10,50 +7,52 @@ use model::Fault;
 use std::alloc::{AllocError, Global};
 use std::test::Fail;
 
-// So many joins, each with an empty drawing on its right.
-fn left_deep(heap: Global, bottom: AnyDrawing, joins: u16) -> Result<AnyDrawing, AllocError>
-    requires { Whole bottom }
-    ensures { IfOk result Whole }
+// So many layers, each put on the pile below it.
+fn piled<F: Fn(u16, AnyDrawing) -> Result<AnyDrawing, AllocError>>(
+    bottom: AnyDrawing,
+    layers: u16,
+    layer: F,
+) -> Result<AnyDrawing, AllocError>
+    requires { F.IsAlwaysCallable layer }
 {
     let mut pile = bottom;
-    for _ in 0..joins {
-        pile = AnyDrawing::join(heap, pile, empty(heap)?)?;
+    for k in 0..layers {
+        pile = layer(k, pile)?;
     }
     Ok(pile)
+}
+
+// So many joins, each with an empty drawing on its right.
+fn left_deep(heap: Global, bottom: AnyDrawing, joins: u16) -> Result<AnyDrawing, AllocError> {
+    piled(
+        bottom,
+        joins,
+        |_, pile| AnyDrawing::join(heap, pile, empty(heap)?),
+    )
 }
 
 // So many joins, each with an empty drawing on its left.
-fn right_deep(heap: Global, bottom: AnyDrawing, joins: u16) -> Result<AnyDrawing, AllocError>
-    requires { Whole bottom }
-    ensures { IfOk result Whole }
-{
-    let mut pile = bottom;
-    for _ in 0..joins {
-        pile = AnyDrawing::join(heap, empty(heap)?, pile)?;
-    }
-    Ok(pile)
+fn right_deep(heap: Global, bottom: AnyDrawing, joins: u16) -> Result<AnyDrawing, AllocError> {
+    piled(
+        bottom,
+        joins,
+        |_, pile| AnyDrawing::join(heap, empty(heap)?, pile),
+    )
 }
 
 // So many renames, of name 1 to name 2 and back again in turn.
-fn renamed(heap: Global, bottom: AnyDrawing, renames: u16) -> Result<AnyDrawing, AllocError>
-    requires { Whole bottom }
-    ensures { IfOk result Whole }
-{
-    let mut pile = bottom;
-    for k in 0..renames {
-        pile = if k % 2 == 0 {
-            AnyDrawing::rename(heap, pile, 1, 2)?
+fn renamed(heap: Global, bottom: AnyDrawing, renames: u16) -> Result<AnyDrawing, AllocError> {
+    piled(bottom, renames, |k, pile| {
+        if k % 2 == 0 {
+            AnyDrawing::rename(heap, pile, 1, 2)
         } else {
-            AnyDrawing::rename(heap, pile, 2, 1)?
-        };
-    }
-    Ok(pile)
+            AnyDrawing::rename(heap, pile, 2, 1)
+        }
+    })
 }
 
 // Does the fault of the faulty list lie in this layer, and are there so many layers?
-fn is_wrong_at(pile: &AnyDrawing, layer: u8, layers: u8) -> bool
-    requires { Whole pile.now }
-{
+fn is_wrong_at(pile: &AnyDrawing, layer: u8, layers: u8) -> bool {
     let fault = Fault {
         number: 18,
         layer,

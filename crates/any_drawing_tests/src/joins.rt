@@ -1,6 +1,5 @@
 // Many parts joined in different ways.
 ghost use Rattle.std.specs.Prelude.{◌+◌, ◌≤◌, IfOk};
-ghost use Rattle.any_drawing.specs.Whole.{Whole};
 
 use crate::alike::{alike, same_set};
 use crate::building::*;
@@ -42,17 +41,13 @@ fn a_table_and_a_gate(rt: HostRuntime) -> Result<(), Fail> {
 const BARRIER: u8 = 31;
 
 // An atom at the junction: it lets name `k` through to the next of fourteen names while the barrier is up.
-fn passage(heap: Global, k: u8) -> Result<AnyDrawing, AllocError>
-    ensures { IfOk result Whole }
-{
+fn passage(heap: Global, k: u8) -> Result<AnyDrawing, AllocError> {
     let next = if k < 13 { k + 1 } else { 0 };
     and(heap, k, BARRIER, next)
 }
 
 // Fourteen atoms in a ring, each of which awaits the one before and the barrier, joined from fourteen parts.
-fn junction(heap: Global) -> Result<AnyDrawing, AllocError>
-    ensures { IfOk result Whole }
-{
+fn junction(heap: Global) -> Result<AnyDrawing, AllocError> {
     let mut pile = passage(heap, 0)?;
     for k in 1..14u8 {
         pile = AnyDrawing::join(heap, pile, passage(heap, k)?)?;
@@ -65,9 +60,7 @@ fn both(one: u8, other: u8) -> Names {
 }
 
 // Does atom k of the junction await name k and the barrier, and give the next name its value?
-fn is_passage(pile: &AnyDrawing, k: u8, next: u8) -> bool
-    requires { Whole pile.now }
-{
+fn is_passage(pile: &AnyDrawing, k: u8, next: u8) -> bool {
     let mut new = [1; 32];
     if k < 32 {
         new[k as usize] = 0;
@@ -82,15 +75,8 @@ fn is_passage(pile: &AnyDrawing, k: u8, next: u8) -> bool
         && pile.gives(Round::Update, k, 2, next, [0; 32], [1; 32]) == 1
 }
 
-fn is_ring(pile: &AnyDrawing) -> bool
-    requires { Whole pile.now }
-{
-    for k in 0..13u8 {
-        if !is_passage(pile, k, k + 1) {
-            return false;
-        }
-    }
-    is_passage(pile, 13, 0)
+fn is_ring(pile: &AnyDrawing) -> bool {
+    (0..13u8).all(|k| is_passage(pile, k, k + 1)) && is_passage(pile, 13, 0)
 }
 
 #[test]
@@ -107,14 +93,11 @@ const WIRE: u8 = 31;
 // A small module on the towpath: it negates the wire under a name of its own, two names from the next.
 fn lamp(heap: Global, k: u8) -> Result<AnyDrawing, AllocError>
     requires { k ≤ 100 }
-    ensures { IfOk result Whole }
 {
     not(heap, WIRE, 2 * k)
 }
 
-fn lamps_from_the_left(heap: Global) -> Result<AnyDrawing, AllocError>
-    ensures { IfOk result Whole }
-{
+fn lamps_from_the_left(heap: Global) -> Result<AnyDrawing, AllocError> {
     let mut pile = lamp(heap, 0)?;
     for k in 1..16u8 {
         pile = AnyDrawing::join(heap, pile, lamp(heap, k)?)?;
@@ -122,9 +105,7 @@ fn lamps_from_the_left(heap: Global) -> Result<AnyDrawing, AllocError>
     Ok(pile)
 }
 
-fn lamps_from_the_right(heap: Global) -> Result<AnyDrawing, AllocError>
-    ensures { IfOk result Whole }
-{
+fn lamps_from_the_right(heap: Global) -> Result<AnyDrawing, AllocError> {
     let mut pile = lamp(heap, 15)?;
     for k in 1..16u8 {
         pile = AnyDrawing::join(heap, lamp(heap, 15 - k)?, pile)?;
@@ -135,7 +116,6 @@ fn lamps_from_the_right(heap: Global) -> Result<AnyDrawing, AllocError>
 // So many lamps from this one on, each half joined by itself first.
 fn lamps_by_halves(heap: Global, first: u8, count: u8) -> Result<AnyDrawing, AllocError>
     requires { first + count ≤ 100 }
-    ensures { IfOk result Whole }
 {
     if count <= 1 {
         return lamp(heap, first);

@@ -1,25 +1,25 @@
 // A pile told in words, by going through its layers.
 use crate::building::*;
-use any_drawing::AnyDrawing;
+use any_drawing::{AnyDrawing, Tree};
 use std::alloc::AllocError;
 use std::test::Fail;
 
-fn tell(drawing: &AnyDrawing, text: &mut String) -> Result<(), AllocError> {
-    match drawing {
-        AnyDrawing::Table(_) => text.push_str("table")?,
-        AnyDrawing::Gates(_) => text.push_str("gates")?,
-        AnyDrawing::Join { left, right, .. } => {
+fn tell(tree: &Tree, text: &mut String) -> Result<(), AllocError> {
+    match tree {
+        Tree::Table(_) => text.push_str("table")?,
+        Tree::Gates(_) => text.push_str("gates")?,
+        Tree::Join { left, right, .. } => {
             text.push_str("(")?;
             tell(left, text)?;
             text.push_str(" + ")?;
             tell(right, text)?;
             text.push_str(")")?;
         }
-        AnyDrawing::Rename { below, .. } => {
+        Tree::Rename { below, .. } => {
             text.push_str("renamed ")?;
             tell(below, text)?;
         }
-        AnyDrawing::Hide { below, .. } => {
+        Tree::Hide { below, .. } => {
             text.push_str("hidden ")?;
             tell(below, text)?;
         }
@@ -38,7 +38,7 @@ fn layers_in_words(rt: HostRuntime) -> Result<(), Fail> {
     )?;
     let pile = AnyDrawing::join(heap, left, right)?;
     let mut text = String::new(heap);
-    tell(&pile, &mut text)?;
+    tell(pile.tree(), &mut text)?;
     assert!(rt; text.as_str() == "(renamed gates + hidden (gates + table))");
     Ok(())
 }

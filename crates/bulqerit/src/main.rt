@@ -1,68 +1,9 @@
-// Runs a script: reads it, and prints an answer for each line that asks for something.
+// Runs a script over gate lists.
 #![tactic(auto)]
 
-use script::{FileBytes, Mistake, Session};
-use std::fs::File;
-use std::io::{BufRead, BufReader};
+use commands::Vocabulary;
 use std::process::ExitCode;
-use std::{env, fs, io};
 
-// The files of the system.
-#[derive(Drop)]
-struct Disk<'a> {
-    rt: &'a HostRuntime,
-}
-
-impl FileBytes for Disk<'_> {
-    fn read(&self, path: &str) -> Result<Vec<u8>, Mistake> {
-        match fs::read(self.rt, path) {
-            Ok(bytes) => Ok(bytes),
-            Err(e) if e.kind() == io::ErrorKind::OutOfMemory => Err(Mistake::NoMemory),
-            Err(_) => Err(Mistake::Unreadable),
-        }
-    }
-}
-
-// Runs the lines in turn, and tells whether all were right.
-fn run_lines<S: BufRead + Drop>(rt: &HostRuntime, script: S) -> io::Result<bool> {
-    let heap = rt.alloc();
-    let disk = Disk { rt };
-    let mut session = Session::new(heap);
-    let mut all_right = true;
-    let mut number: u64 = 0;
-    for line in script.split(heap, b'\n') {
-        number = number.saturating_add(1);
-        match session.run(&disk, line?.as_slice()) {
-            Ok(Some(answer)) => println!(rt; "{answer}")?,
-            Ok(None) => {}
-            Err(mistake) => {
-                println!(rt; "error: line {number}: {mistake}")?;
-                all_right = false;
-            }
-        }
-    }
-    Ok(all_right)
-}
-
-// Runs the script that the first argument names, or standard input where there is none.
-fn run_script(rt: &HostRuntime) -> io::Result<bool> {
-    match env::args(rt)?.nth(1) {
-        Some(path) => run_lines(
-            rt,
-            BufReader::new(rt.alloc(), File::open(rt, path.as_str())?)?,
-        ),
-        None => run_lines(rt, BufReader::new(rt.alloc(), rt.stdin())?),
-    }
-}
-
-// Ends with status 1 where a line was refused or the script cannot be run. What went wrong has been told then.
 fn main(rt: HostRuntime) -> ExitCode {
-    match run_script(&rt) {
-        Ok(true) => ExitCode::SUCCESS,
-        Ok(false) => ExitCode::FAILURE,
-        Err(e) => {
-            let _ = eprintln!(rt; "error: the script cannot be run: {e}");
-            ExitCode::FAILURE
-        }
-    }
+    console::run(&rt, Vocabulary::GateLists)
 }

@@ -9,8 +9,9 @@ use Rattle.commands.specs.Sources.{Denotes}
 use Rattle.commands.specs.Words.{Words}
 use Rattle.commands.specs.declared.command.Command.{Command}
 use Rattle.commands.specs.declared.command.Command.TheVariants.{New, Table, Gates, Join, Rename, Hide, Seal, Verdict, Outline, Ask}
-use Rattle.commands.specs.Verbs.{verb_of, words_wanted}
+use Rattle.commands.specs.Verbs.{known_verb, words_wanted}
 use Rattle.commands.specs.declared.verb.Verb.{Verb}
+use Rattle.commands.specs.declared.vocabulary.Vocabulary.{Vocabulary}
 use Rattle.commands.specs.declared.mistake.Mistake.{Mistake}
 use Rattle.commands.specs.declared.mistake.Mistake.TheVariants.{UnknownCommand, MissingWord, SuperfluousWord, BadRound, NoMemory}
 
@@ -42,9 +43,9 @@ Spell ws (Seal name drawing number) =
     (word ws 0 ≡ string_bytes name) × (word ws 1 ≡ string_bytes drawing) × Counts 4294967296 (word ws 2) number
 Spell ws (Verdict name) = word ws 0 ≡ string_bytes name
 Spell ws (Outline name) = word ws 0 ≡ string_bytes name
-Spell ws (Ask name round atom choice old new) =
-    (word ws 0 ≡ string_bytes name) × (round_of (word ws 1) ≡ Ok round)
-    × Counts 256 (word ws 2) atom × Counts 256 (word ws 3) choice × Denotes (word ws 4) old × Denotes (word ws 5) new
+Spell ws (Ask name asked) =
+    (word ws 0 ≡ string_bytes name) × (round_of (word ws 1) ≡ Ok asked.round)
+    × Counts 256 (word ws 2) asked.atom × Counts 256 (word ws 3) asked.choice × Denotes (word ws 4) asked.old × Denotes (word ws 5) asked.new
 
 -- what the command begins with
 abbrev pub verb_in : Command → Verb
@@ -57,7 +58,7 @@ verb_in (Hide name below hidden) = Verb.Hide
 verb_in (Seal name drawing number) = Verb.Seal
 verb_in (Verdict name) = Verb.Verdict
 verb_in (Outline name) = Verb.Outline
-verb_in (Ask name round atom choice old new) = Verb.Ask
+verb_in (Ask name asked) = Verb.Ask
 
 -- the verb, and as many words after it as it wants, are this command
 pub record Says (v : Verb) (ws : List (Bor (List ℕ))) (c : Command) : Type 0 where
@@ -89,18 +90,18 @@ abbrev pub begins_comment : List ℕ → Bool
 begins_comment w = slice_index w 0 == 35
 
 -- what the words of a line ask for: nothing where there are none or the first begins a comment, else the command
--- that they spell
-abbrev pub Asks : List (Bor (List ℕ)) → Option Command → Type 0
-Asks [] None = Unit {0}
-Asks [] (Some command) = ⊥
-Asks (w ∷ ws) None = begins_comment w.now ≡ true
-Asks (w ∷ ws) (Some command) = (begins_comment w.now ≡ false) × Means (verb_of w.now) ws command
+-- of the vocabulary that they spell
+abbrev pub Asks : Vocabulary → List (Bor (List ℕ)) → Option Command → Type 0
+Asks vocabulary [] None = Unit {0}
+Asks vocabulary [] (Some command) = ⊥
+Asks vocabulary (w ∷ ws) None = begins_comment w.now ≡ true
+Asks vocabulary (w ∷ ws) (Some command) = (begins_comment w.now ≡ false) × Means (known_verb vocabulary w.now) ws command
 
 -- why the words of a line are refused
-abbrev pub RefusedWords : List (Bor (List ℕ)) → Mistake → Type 0
-RefusedWords [] e = ⊥
-RefusedWords (w ∷ ws) e = (begins_comment w.now ≡ false) × Refused (verb_of w.now) (length ws) e
+abbrev pub RefusedWords : Vocabulary → List (Bor (List ℕ)) → Mistake → Type 0
+RefusedWords vocabulary [] e = ⊥
+RefusedWords vocabulary (w ∷ ws) e = (begins_comment w.now ≡ false) × Refused (known_verb vocabulary w.now) (length ws) e
 
 -- a line is refused for its words, or for want of memory
-abbrev pub Unread : List ℕ → Mistake → Type 0
-Unread line e = ((ws : List (Bor (List ℕ))) × Words line ws × RefusedWords ws e) ⊎ (e ≡ NoMemory)
+abbrev pub Unread : Vocabulary → List ℕ → Mistake → Type 0
+Unread vocabulary line e = ((ws : List (Bor (List ℕ))) × Words line ws × RefusedWords vocabulary ws e) ⊎ (e ≡ NoMemory)

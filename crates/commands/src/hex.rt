@@ -1,7 +1,8 @@
 // Byte strings as hex digits, two to a byte.
 ghost use Rattle.commands.specs.Hex.{digit_worth, byte_spelt, Spells};
 ghost use Rattle.commands.specs.Refusals.{HexRefused};
-ghost use Rattle.std.specs.Prelude.{◌≡◌, MatchResult};
+ghost use Rattle.commands.specs.declared.mistake.Mistake.TheVariants.{BadHex};
+ghost use Rattle.std.specs.Prelude.{◌≡◌, Some, None, MatchResult};
 
 use crate::mistake::Mistake;
 use std::alloc::Global;
@@ -19,13 +20,13 @@ fn digit(c: u8) -> Option<u8>
 }
 
 // The byte that two digits spell.
-fn byte(high: u8, low: u8) -> Option<u8>
-    ensures { result ≡ byte_spelt high low }
+fn byte(high: u8, low: u8) -> Result<u8, Mistake>
+    ensures { MatchResult result (λ b. byte_spelt high low ≡ Some b) (λ e. (e ≡ BadHex) × (byte_spelt high low ≡ None)) }
 {
-    let (Some(high), Some(low)) = (digit(high), digit(low)) else {
-        return None;
-    };
-    Some(high * 16 + low)
+    match (digit(high), digit(low)) {
+        (Some(high), Some(low)) => Ok(high * 16 + low),
+        _ => Err(Mistake::BadHex),
+    }
 }
 
 // The bytes that a text of hex digits spells.
@@ -37,11 +38,8 @@ pub fn bytes_of_hex(heap: Global, text: &str) -> Result<Vec<u8>, Mistake>
         return Err(Mistake::OddHex);
     }
     let mut bytes = Vec::new(heap);
-    for k in 0..digits.len() / 2 {
-        let Some(b) = byte(digits[2 * k], digits[2 * k + 1]) else {
-            return Err(Mistake::BadHex);
-        };
-        bytes.push(b)?;
+    for pair in digits.chunks_exact(2) {
+        bytes.push(byte(pair[0], pair[1])?)?;
     }
     Ok(bytes)
 }

@@ -50,8 +50,5 @@ impl ByteSource {
 pub fn state_of(bytes: &[u8]) -> Result<State, Mistake>
     ensures { MatchResult result (λ s. s ≡ bytes.now) (λ e. (e ≡ NotAState) × (length bytes.now ≢ 32)) }
 {
-    match State::try_from(bytes) {
-        Ok(state) => Ok(state),
-        Err(_) => Err(Mistake::NotAState),
-    }
+    State::try_from(bytes).map_err(|_| Mistake::NotAState)
 }

@@ -8,7 +8,8 @@ use Rattle.model.specs.Tests.{lowest}
 use Rattle.model.specs.declared.Fault.{Fault}
 use Rattle.model.specs.declared.Kind.{Kind}
 use Rattle.model.specs.declared.Kind.TheVariants.{Private, Interface, External}
-use Rattle.composition.specs.Faults.{own, deeper, raised, is_interface, rename_fault, hide_fault, clash, clashes, differs, join_fault, fault_of_renamed, fault_of_hidden, fault_of_joined}
+use Rattle.composition.specs.Faults.{deeper, raised, is_interface, rename_fault, hide_fault, clash, clashes, differs, join_fault, fault_of_renamed, fault_of_hidden, fault_of_joined}
+use Rattle.model.specs.Faults.{own}
 
 pub some≢none : {A : Type 0} (x : A) → Some x ≢ None
 some≢none x e = true≢false (ap is_some e)

@@ -2,6 +2,7 @@
 -- comes the whole left part, then the right; past 255 is told as 255. Assumes nothing.
 use Rattle.std.specs.Prelude.{ℕ, ◌+◌, min, Bool, true, false, cond, not, ◌&&◌, ◌||◌, is_some, Some, None, Option, ◌==◌, nat_lt}
 use Rattle.std.specs.Option.{option_or, option_map}
+use Rattle.model.specs.Faults.{own}
 use Rattle.model.specs.Meanings.{OutlineFacts}
 use Rattle.model.specs.Tests.{lowest}
 use Rattle.model.specs.declared.Fault.{Fault}
@@ -19,10 +20,6 @@ is_interface None = false
 is_interface (Some Private) = false
 is_interface (Some Interface) = true
 is_interface (Some External) = false
-
--- a fault of the top layer itself
-abbrev pub own : ℕ → ℕ → Fault
-own number place = record { number = number; layer = 0; place = place }
 
 -- the old name is absent, or the new one is present or no name
 abbrev pub rename_fault : OutlineFacts → ℕ → ℕ → Option Fault

@@ -13,67 +13,49 @@ use model::{Fault, Kind, Names, Round, State};
 pub trait Outline {
     ghost outline: { Self → OutlineFacts };
 
-    // What a value keeps beside its type, from the call that made it on. A kind that keeps nothing more leaves it out;
-    // a pile keeps what it judged of its parts when it was made.
-    ghost whole: { Self → Type 0 } = { λ _. Unit {0} };
-
     fn fault(&self) -> Option<Fault>
-        requires { whole self.now }
         ensures { result ≡ (outline self.now).fault };
 
     // The number of layers that the drawing is piled of, 1 to 255; more are told as 255.
     fn layers(&self) -> u8
-        requires { whole self.now }
         ensures { result ≡ (outline self.now).layers };
 
     fn kind(&self, name: u8) -> Option<Kind>
-        requires { whole self.now }
         ensures { result ≡ (outline self.now).kind name };
 
     // The variable's largest value.
     fn top(&self, name: u8) -> u8
-        requires { whole self.now }
         ensures { result ≡ (outline self.now).top name };
 
     fn atoms(&self) -> u8
-        requires { whole self.now }
         ensures { result ≡ (outline self.now).atoms };
 
     fn controls(&self, atom: u8) -> Names
-        requires { whole self.now }
         ensures { (n : ℕ) → has result n ≡ (outline self.now).controls atom n };
 
     fn reads(&self, atom: u8) -> Names
-        requires { whole self.now }
         ensures { (n : ℕ) → has result n ≡ (outline self.now).reads atom n };
 
     fn awaits(&self, atom: u8) -> Names
-        requires { whole self.now }
         ensures { (n : ℕ) → has result n ≡ (outline self.now).awaits atom n };
 }
 
-// The full drawing: what each atom may do in a round. Its meaning holds the outline's facts, and each answer
-// promises that the two agree.
+// The full drawing: what each atom may do in a round. Its meaning holds the outline's facts: the law says that the two
+// agree.
 pub trait Drawing: Outline {
     ghost meaning: { Self → Meaning };
 
     // How many choices the atom has in such a round.
     fn choices(&self, round: Round, atom: u8) -> u8
-        requires { Self.Outline.whole self.now }
-        ensures told { result ≡ (meaning self.now).acts.choices round atom }
-        ensures agrees { (meaning self.now).outline ≡ Self.Outline.outline self.now };
+        ensures { result ≡ (meaning self.now).acts.choices round atom };
 
     // Is the choice open at these old and new values?
     fn is_open(&self, round: Round, atom: u8, choice: u8, old: State, new: State) -> bool
-        requires { Self.Outline.whole self.now }
-        ensures told { result ≡ (meaning self.now).acts.opens round atom choice (value old) (value new) }
-        ensures agrees { (meaning self.now).outline ≡ Self.Outline.outline self.now };
+        ensures { result ≡ (meaning self.now).acts.opens round atom choice (value old) (value new) };
 
     // What the choice gives to a name that its atom controls.
     fn gives(&self, round: Round, atom: u8, choice: u8, name: u8, old: State, new: State) -> i16
-        requires { Self.Outline.whole self.now }
-        ensures told { result ≡ (meaning self.now).acts.gives round atom choice name (value old) (value new) }
-        ensures agrees { (meaning self.now).outline ≡ Self.Outline.outline self.now };
+        ensures { result ≡ (meaning self.now).acts.gives round atom choice name (value old) (value new) };
 
     ghost agree: { (d : Self) → (meaning d).outline ≡ Self.Outline.outline d };
 }

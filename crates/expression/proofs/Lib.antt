@@ -1,5 +1,6 @@
 pub mod Ends
 pub mod Evaluated
+pub mod Here
 pub mod Promises
 pub mod Renamed
 pub mod Sight

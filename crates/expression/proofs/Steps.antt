@@ -1,6 +1,7 @@
 -- One step of reading an expression, by what stands at its place. Assumes nothing.
-use Rattle.std.proofs.Common.{◌≡◌, ℕ, zero, suc, ◌+◌, ◌-◌, ◌<◌, List, length, Some, None, Option, sym, refl, ap, ◌∙◌, arith}
+use Rattle.std.proofs.Common.{◌≡◌, ℕ, zero, suc, ◌+◌, ◌-◌, ◌<◌, List, length, Some, None, Option, Result, Err, sym, refl, ap, ◌∙◌, arith}
 use Rattle.std.specs.List.{slice_get}
+use Rattle.std.specs.Option.{ok_or}
 use Rattle.language.specs.ExpressionLaws.{nth_inside, byte_is, none_some}
 use Rattle.language.specs.Expressions.{Seen, byte_at, bad, after, judged, good_byte, number_operator, number_operands, read_number, truth_operator, truth_operands, read_truth}
 use Rattle.expression.specs.Operators.{number_operator_of, number_meant, truth_operator_of, truth_meant}
@@ -17,6 +18,11 @@ operator_inside {X} judge bs k x e = go (byte_at bs k) refl e
     go : (o : Option ℕ) → byte_at bs k ≡ o → Some x ≡ judged judge o → k < length bs
     go None h e = none_some x (sym e)
     go (Some b) h e = byte_inside bs k b h
+
+-- where nothing stands the place is told
+pub place_told : {X : Type 0} (o : Option X) (place told : ℕ) → o ≡ None → ◌≡◌ {A = Result X ℕ} (Err told) (ok_or o place) → told ≡ place
+place_told None place told e h = cc
+place_told (Some x) place told e h = none_some x (sym e)
 
 pub number_none : (levels : ℕ) (s : Seen) (bs : List ℕ) (k : ℕ) → levels ≡ 0 → read_number levels s bs k ≡ bad k
 unfolding read_number

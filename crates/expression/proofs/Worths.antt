@@ -5,10 +5,10 @@ use borrow.Author.Differences.{up, down, ints}
 use Rattle.std.proofs.lemmas.Int.{to_z-of_z}
 use Rattle.std.proofs.lemmas.Bool.{and_parts, leb-true, eqb-true, eqb-false, eq-eqb, ne_eqb}
 use Rattle.language.specs.ExpressionLaws.{number_read, leaves, number_bounded}
-use Rattle.language.specs.Expressions.{Number, constant, old_value, new_value, sum, difference, Truth, number_levels, eqZ, number_sees, byte_at, Reading, good, bad, after, judged, good_byte, read_byte, as_constant, as_name, one, two, read_number}
+use Rattle.language.specs.Expressions.{Number, constant, old_value, new_value, sum, difference, number_levels, eqZ, number_sees, byte_at, Reading, good, bad, after, judged, good_byte, read_byte, as_constant, as_name, one, two, read_number}
 use Rattle.model.specs.Meanings.{Bytes}
 use Rattle.model.specs.States.{value}
-use Rattle.expression.specs.Evaluation.{everything, valued, number_worth, truth_worth, pair, pair_worth, one_byte, itself, byte_worth, name_worth}
+use Rattle.expression.specs.Evaluation.{everything, valued, number_worth, pair, pair_worth, one_byte, itself, byte_worth, name_worth}
 
 -- one byte
 pub constant_worth : (old new bs : List ℕ) (k : ℕ) → byte_worth bs k ≡ valued (number_worth old new) (read_byte as_constant bs k)
@@ -59,54 +59,44 @@ module _ {X Y V W : Type 0} (f : X → V) (g : Y → W) (make : X → Y) (h : V 
       go (good x j) e =
           ap₂ (λ a b. Some (a, b)) (ap h (same_value v (f x) end j e) ∙ sym (law x)) (same_end v (f x) end j e)
 
--- two operands
-module _ {X Y V W : Type 0} (f : X → V) (g : Y → W) (make : X → X → Y) (h : V → V → W) (law : (x y : X) → g (make x y) ≡ h (f x) (f y)) (operand : ℕ → Reading X) where
-  pub two_none : (k : ℕ) → None ≡ valued f (operand k) → None ≡ valued g (two make operand k)
-  two_none k e = go (operand k) e
-    where
-      go : (r : Reading X) → None ≡ valued f r → None ≡ valued g (after r (λ a. one (make a) operand))
-      go (bad place) e = refl
-      go (good x end) e = some_none (f x, end) (sym e)
+-- the two of a pair, each where it was read
+pub pair_parts : {X V : Type 0} (f : X → V) (operand : ℕ → Reading X) (k : ℕ) (v w : V) (end : ℕ) → Some ((v, w), end) ≡ valued (pair_worth f) (two pair operand k) → (next : ℕ) × (Some (v, next) ≡ valued f (operand k)) × (Some (w, end) ≡ valued f (operand next))
+pair_parts {X} {V} f operand k v w end e = go (operand k) refl e
+  where
+    then : (x : X) (j : ℕ) → operand k ≡ good x j → (r : Reading X) → operand j ≡ r → Some ((v, w), end) ≡ valued (pair_worth f) (after r (λ y end. good (pair x y) end)) → (next : ℕ) × (Some (v, next) ≡ valued f (operand k)) × (Some (w, end) ≡ valued f (operand next))
+    then x j h (bad place) g e = some_none ((v, w), end) e
+    then x j h (good y i) g e =
+        let both = same_value (v, w) (f x, f y) end i e in
+        (j, ap (λ a. Some (a, j)) (ap (λ p. p.0) both) ∙ sym (ap (valued f) h), ap₂ (λ a b. Some (a, b)) (ap (λ p. p.1) both) (same_end (v, w) (f x, f y) end i e) ∙ sym (ap (valued f) g))
 
-  pub two_cut : (k : ℕ) (v : V) (next : ℕ) → Some (v, next) ≡ valued f (operand k) → None ≡ valued f (operand next) → None ≡ valued g (two make operand k)
-  two_cut k v next e d = go (operand k) e
-    where
-      go : (r : Reading X) → Some (v, next) ≡ valued f r → None ≡ valued g (after r (λ a. one (make a) operand))
-      go (bad place) e = refl
-      go (good x j) e = one_none f g (make x) (h (f x)) (law x) operand j (d ∙ ap (λ i. valued f (operand i)) (same_end v (f x) next j e))
+    go : (r : Reading X) → operand k ≡ r → Some ((v, w), end) ≡ valued (pair_worth f) (after r (λ a. one (pair a) operand)) → (next : ℕ) × (Some (v, next) ≡ valued f (operand k)) × (Some (w, end) ≡ valued f (operand next))
+    go (bad place) h e = some_none ((v, w), end) e
+    go (good x j) h e = then x j h (operand j) refl e
 
-  pub two_worth : (k : ℕ) (v : V) (next : ℕ) (w : V) (end : ℕ) → Some (v, next) ≡ valued f (operand k) → Some (w, end) ≡ valued f (operand next) → Some (h v w, end) ≡ valued g (two make operand k)
-  two_worth k v next w end e d = go (operand k) e
+-- two operands that were read as a pair: g tells what is made of them, h how it comes from what they are worth
+module _ {X Y V W : Type 0} (f : X → V) (g : Y → W) (make : X → X → Y) (h : V → V → W) (law : (x y : X) → g (make x y) ≡ h (f x) (f y)) (operand : ℕ → Reading X) (k : ℕ) where
+  pub two_none : None ≡ valued (pair_worth f) (two pair operand k) → None ≡ valued g (two make operand k)
+  two_none e = go (operand k) e
     where
-      go : (r : Reading X) → Some (v, next) ≡ valued f r → Some (h v w, end) ≡ valued g (after r (λ a. one (make a) operand))
-      go (bad place) e = some_none (v, next) e
-      go (good x j) e =
-          ap (λ a. Some (h a w, end)) (same_value v (f x) next j e) ∙ one_worth f g (make x) (h (f x)) (law x) operand j w end (d ∙ ap (λ i. valued f (operand i)) (same_end v (f x) next j e))
-
--- two numbers that were read as a pair
-module _ (old new : List ℕ) (make : Number → Number → Truth) (h : ℤ → ℤ → Bool) (law : (x y : Number) → truth_worth old new (make x y) ≡ h (number_worth old new x) (number_worth old new y)) (operand : ℕ → Reading Number) (k : ℕ) where
-  pub pair_none : None ≡ valued (pair_worth old new) (two pair operand k) → None ≡ valued (truth_worth old new) (two make operand k)
-  pair_none e = go (operand k) e
-    where
-      then : (x : Number) (r : Reading Number) → None ≡ valued (pair_worth old new) (after r (λ a end. good (pair x a) end)) → None ≡ valued (truth_worth old new) (after r (λ a end. good (make x a) end))
+      then : (x : X) (r : Reading X) → None ≡ valued (pair_worth f) (after r (λ a end. good (pair x a) end)) → None ≡ valued g (after r (λ a end. good (make x a) end))
       then x (bad place) e = refl
-      then x (good y end) e = some_none (pair_worth old new (x, y), end) (sym e)
+      then x (good y end) e = some_none (pair_worth f (x, y), end) (sym e)
 
-      go : (r : Reading Number) → None ≡ valued (pair_worth old new) (after r (λ a. one (pair a) operand)) → None ≡ valued (truth_worth old new) (after r (λ a. one (make a) operand))
+      go : (r : Reading X) → None ≡ valued (pair_worth f) (after r (λ a. one (pair a) operand)) → None ≡ valued g (after r (λ a. one (make a) operand))
       go (bad place) e = refl
       go (good x j) e = then x (operand j) e
 
-  pub pair_both : (a b : ℤ) (end : ℕ) → Some ((a, b), end) ≡ valued (pair_worth old new) (two pair operand k) → Some (h a b, end) ≡ valued (truth_worth old new) (two make operand k)
-  pair_both a b end e = go (operand k) e
+  pub two_worth : (v w : V) (end : ℕ) → Some ((v, w), end) ≡ valued (pair_worth f) (two pair operand k) → Some (h v w, end) ≡ valued g (two make operand k)
+  two_worth v w end e = go (operand k) e
     where
-      then : (x : Number) (r : Reading Number) → Some ((a, b), end) ≡ valued (pair_worth old new) (after r (λ y end. good (pair x y) end)) → Some (h a b, end) ≡ valued (truth_worth old new) (after r (λ y end. good (make x y) end))
-      then x (bad place) e = some_none ((a, b), end) e
+      then : (x : X) (r : Reading X) → Some ((v, w), end) ≡ valued (pair_worth f) (after r (λ y end. good (pair x y) end)) → Some (h v w, end) ≡ valued g (after r (λ y end. good (make x y) end))
+      then x (bad place) e = some_none ((v, w), end) e
       then x (good y j) e =
-          let both = same_value (a, b) (pair_worth old new (x, y)) end j e in
-          ap₂ (λ t j. Some (t, j)) (ap₂ h (ap (λ p. p.0) both) (ap (λ p. p.1) both) ∙ sym (law x y)) (same_end (a, b) (pair_worth old new (x, y)) end j e)
+          let both = same_value (v, w) (pair_worth f (x, y)) end j e in
+          ap₂ (λ t j. Some (t, j)) (ap₂ h (ap (λ p. p.0) both) (ap (λ p. p.1) both) ∙ sym (law x y)) (same_end (v, w) (pair_worth f (x, y)) end j e)
 
-      go : (r : Reading Number) → Some ((a, b), end) ≡ valued (pair_worth old new) (after r (λ a. one (pair a) operand)) → Some (h a b, end) ≡ valued (truth_worth old new) (after r (λ a. one (make a) operand))
-      go (bad place) e = some_none ((a, b), end) e
+      go : (r : Reading X) → Some ((v, w), end) ≡ valued (pair_worth f) (after r (λ a. one (pair a) operand)) → Some (h v w, end) ≡ valued g (after r (λ a. one (make a) operand))
+      go (bad place) e = some_none ((v, w), end) e
       go (good x j) e = then x (operand j) e
 
 -- each level doubles how many constants and names a number can hold
@@ -139,6 +129,12 @@ room l bs old new k z end few p q e = go (read_number l everything bs k) refl e
         let held = number_bounded everything x (value old) (value new) parts.1 p q in
         let most : leaves x ≤ 64 = omega (arith, leaves_few x, pow_mono under) in
         subst Room (sym same) (record { high = omega (arith, held.high, held.low); low = omega (arith, held.high, held.low) })
+
+-- of both numbers of a pair
+pub rooms : (l : ℕ) (bs old new : List ℕ) (k : ℕ) (a b : ℤ) (end : ℕ) → l ≤ 7 → Bytes (value old) → Bytes (value new) → Some ((a, b), end) ≡ valued (pair_worth (number_worth old new)) (two pair (read_number l everything bs) k) → Room a × Room b
+rooms l bs old new k a b end few p q e =
+    let parts = pair_parts (number_worth old new) (read_number l everything bs) k a b end e in
+    (room l bs old new k a parts.0 few p q parts.1, room l bs old new parts.0 b end few p q parts.2)
 
 -- numbers of 16 bits, as they are computed
 pub room_fits : (z : ℤ) → Room z → SFits w16 z

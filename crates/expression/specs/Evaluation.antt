@@ -1,6 +1,7 @@
 -- What the evaluator answers. Assumes nothing.
 use Rattle.std.specs.Prelude.{◌≡◌, ℕ, ◌+◌, ◌≤◌, Bool, true, false, List, length, ℤ, pos, negsuc, ◌≤ℤ◌, Some, None, Option}
-use Rattle.language.specs.Expressions.{Number, Truth, Seen, number_bytes, truth_bytes, number_value, truth_value, number_right, truth_right, byte_at, Reading, good, bad, whole_number, whole_truth}
+use Rattle.language.specs.Expressions.{Number, Truth, Seen, number_bytes, truth_bytes, number_value, truth_value, number_right, truth_right, byte_at, Reading, good, bad, two, read_number, read_truth, whole_number, whole_truth}
+use Rattle.expression.specs.declared.evaluator.Evaluator.{Evaluator}
 use Rattle.model.specs.States.{value}
 
 -- every name is seen
@@ -22,8 +23,23 @@ truth_worth old new p = truth_value p (value old) (value new)
 abbrev pub pair : {X : Type 0} → X → X → X × X
 pair a b = (a, b)
 
-abbrev pub pair_worth : List ℕ → List ℕ → Number × Number → ℤ × ℤ
-pair_worth old new p = (number_worth old new p.0, number_worth old new p.1)
+-- what each of two is worth
+abbrev pub pair_worth : {X V : Type 0} → (X → V) → X × X → V × V
+pair_worth worth p = (worth p.0, worth p.1)
+
+-- what stands at place k and nests at most so many levels deep is worth, and the place after it: a number or a truth,
+-- and two of them, one after the other
+abbrev pub number_here : Evaluator → ℕ → ℕ → Option (ℤ × ℕ)
+number_here e levels k = valued (number_worth e.old.now e.new.now) (read_number levels everything e.bytes.now k)
+
+abbrev pub numbers_here : Evaluator → ℕ → ℕ → Option ((ℤ × ℤ) × ℕ)
+numbers_here e levels k = valued (pair_worth (number_worth e.old.now e.new.now)) (two pair (read_number levels everything e.bytes.now) k)
+
+abbrev pub truth_here : Evaluator → ℕ → ℕ → Option (Bool × ℕ)
+truth_here e levels k = valued (truth_worth e.old.now e.new.now) (read_truth levels everything e.bytes.now k)
+
+abbrev pub truths_here : Evaluator → ℕ → ℕ → Option ((Bool × Bool) × ℕ)
+truths_here e levels k = valued (pair_worth (truth_worth e.old.now e.new.now)) (two pair (read_truth levels everything e.bytes.now) k)
 
 -- a byte's worth, and the place after it
 abbrev pub one_byte : (ℕ → ℕ) → ℕ → Option ℕ → Option (ℤ × ℕ)

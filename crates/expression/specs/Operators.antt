@@ -1,6 +1,7 @@
 -- What the operators of the code stand for. Assumes nothing.
-use Rattle.std.specs.Prelude.{Some, None, Option}
+use Rattle.std.specs.Prelude.{◌≡◌, ℕ, Some, None, Option, Result, MatchResult}
 use Rattle.language.specs.Expressions.{NumberOperation, constant_follows, old_name_follows, new_name_follows, plus, minus, TruthOperation, equals, less_than, not_follows, and_follows, or_follows, is_true}
+use Rattle.expression.specs.declared.operators.NoOperator.{NoOperator}
 use Rattle.expression.specs.declared.operators.NumberOperator.{NumberOperator}
 use Rattle.expression.specs.declared.operators.NumberOperator.TheVariants.{Constant, OldValue, NewValue, Sum, Difference}
 use Rattle.expression.specs.declared.operators.TruthOperator.{TruthOperator}
@@ -28,3 +29,7 @@ truth_operator_of True = is_true
 abbrev pub truth_meant : Option TruthOperator → Option TruthOperation
 truth_meant None = None
 truth_meant (Some o) = Some (truth_operator_of o)
+
+-- the operator that the byte is read as, or an error where it is read as none
+abbrev pub StandsFor : {O M : Type 0} → (O → M) → (ℕ → Option M) → ℕ → Result O NoOperator → Type 0
+StandsFor meant read byte r = MatchResult r (λ o. read byte ≡ Some (meant o)) (λ _. read byte ≡ None)

@@ -15,78 +15,85 @@ pub struct Seen {
     pub new: Names,
 }
 
-// The place after a constant, which is any byte.
-fn constant_end(bytes: &[u8], place: usize) -> Result<usize, usize>
-    ensures { result ≡ read_end (read_byte as_constant bytes.now place) }
-{
-    match byte_at(bytes, place) {
-        Some(_) => Ok(place + 1),
-        None => Err(place),
-    }
+// Bytes that are read as an expression, and the names that it may use.
+#[derive(Clone, Copy)]
+struct Checker<'a> {
+    bytes: &'a [u8],
+    seen: &'a Seen,
 }
 
-// The place after a name, which is in the set.
-fn name_end(bytes: &[u8], names: &Names, place: usize) -> Result<usize, usize>
-    ensures { result ≡ name_end (has names.now) bytes.now place }
-{
-    match byte_at(bytes, place) {
-        Some(name) if names.has(name) => Ok(place + 1),
-        _ => Err(place),
+impl Checker<'_> {
+    // The place after a constant, which is any byte.
+    fn constant_end(&self, place: usize) -> Result<usize, usize>
+        ensures { result ≡ read_end (read_byte as_constant self.now.bytes.now place) }
+    {
+        byte_at(self.bytes, place).ok_or(place)?;
+        Ok(place + 1)
     }
-}
 
-// The place after the number that begins here and nests at most so many levels deep, or that of its first fault.
-fn number_end(bytes: &[u8], seen: &Seen, levels: u8, place: usize) -> Result<usize, usize>
-    ensures { result ≡ read_end (read_number levels (seen_of seen.now) bytes.now place) }
-{
-    if levels == 0 {
-        return Err(place);
-    }
-    let Some(operator) = NumberOperator::at(bytes, place) else {
-        return Err(place);
-    };
-    let first = place + 1;
-    match operator {
-        NumberOperator::Constant => constant_end(bytes, first),
-        NumberOperator::OldValue => name_end(bytes, &seen.old, first),
-        NumberOperator::NewValue => name_end(bytes, &seen.new, first),
-        NumberOperator::Sum | NumberOperator::Difference => {
-            let second = number_end(bytes, seen, levels - 1, first)?;
-            number_end(bytes, seen, levels - 1, second)
+    // The place after a name, which is in the set.
+    fn name_end(&self, names: &Names, place: usize) -> Result<usize, usize>
+        ensures { result ≡ name_end (has names.now) self.now.bytes.now place }
+    {
+        match byte_at(self.bytes, place) {
+            Some(name) if names.has(name) => Ok(place + 1),
+            _ => Err(place),
         }
     }
-}
 
-// The place after the truth that begins here and nests at most so many levels deep, or that of its first fault.
-fn truth_end(bytes: &[u8], seen: &Seen, levels: u8, place: usize) -> Result<usize, usize>
-    ensures { result ≡ read_end (read_truth levels (seen_of seen.now) bytes.now place) }
-{
-    if levels == 0 {
-        return Err(place);
-    }
-    let Some(operator) = TruthOperator::at(bytes, place) else {
-        return Err(place);
-    };
-    let first = place + 1;
-    match operator {
-        TruthOperator::Equal | TruthOperator::Less => {
-            let second = number_end(bytes, seen, levels - 1, first)?;
-            number_end(bytes, seen, levels - 1, second)
+    // The place after the number that begins here and nests at most so many levels deep, or that of its first fault.
+    fn number_end(&self, levels: u8, place: usize) -> Result<usize, usize>
+        ensures { result ≡ read_end (read_number levels (seen_of self.now.seen.now) self.now.bytes.now place) }
+    {
+        if levels == 0 {
+            return Err(place);
         }
-        TruthOperator::Not => truth_end(bytes, seen, levels - 1, first),
-        TruthOperator::And | TruthOperator::Or => {
-            let second = truth_end(bytes, seen, levels - 1, first)?;
-            truth_end(bytes, seen, levels - 1, second)
+        let operator = NumberOperator::at(self.bytes, place).ok_or(place)?;
+        let first = place + 1;
+        match operator {
+            NumberOperator::Constant => self.constant_end(first),
+            NumberOperator::OldValue => self.name_end(&self.seen.old, first),
+            NumberOperator::NewValue => self.name_end(&self.seen.new, first),
+            NumberOperator::Sum | NumberOperator::Difference => {
+                let second = self.number_end(levels - 1, first)?;
+                self.number_end(levels - 1, second)
+            }
         }
-        TruthOperator::True => Ok(first),
     }
-}
 
-// An expression ends where its bytes do: what is left over is a fault, at its first byte.
-fn to_the_end(bytes: &[u8], end: usize) -> Result<(), usize>
-    ensures { result ≡ ended (length bytes.now) end }
-{
-    if end == bytes.len() { Ok(()) } else { Err(end) }
+    // The place after the truth that begins here and nests at most so many levels deep, or that of its first fault.
+    fn truth_end(&self, levels: u8, place: usize) -> Result<usize, usize>
+        ensures { result ≡ read_end (read_truth levels (seen_of self.now.seen.now) self.now.bytes.now place) }
+    {
+        if levels == 0 {
+            return Err(place);
+        }
+        let operator = TruthOperator::at(self.bytes, place).ok_or(place)?;
+        let first = place + 1;
+        match operator {
+            TruthOperator::Equal | TruthOperator::Less => {
+                let second = self.number_end(levels - 1, first)?;
+                self.number_end(levels - 1, second)
+            }
+            TruthOperator::Not => self.truth_end(levels - 1, first),
+            TruthOperator::And | TruthOperator::Or => {
+                let second = self.truth_end(levels - 1, first)?;
+                self.truth_end(levels - 1, second)
+            }
+            TruthOperator::True => Ok(first),
+        }
+    }
+
+    // An expression ends where its bytes do: what is left over is a fault, at its first byte.
+    fn to_the_end(&self, end: usize) -> Result<(), usize>
+        ensures { result ≡ ended (length self.now.bytes.now) end }
+    {
+        if end == self.bytes.len() {
+            Ok(())
+        } else {
+            Err(end)
+        }
+    }
 }
 
 // Are the bytes a right number that sees only these names? Else the place of the first fault.
@@ -94,8 +101,9 @@ pub fn check_number(bytes: &[u8], seen: &Seen) -> Result<(), usize>
     ensures told { result ≡ checked (expression_fault (whole_number 8 (seen_of seen.now) bytes.now)) }
     ensures judged { NumberJudged (seen_of seen.now) bytes.now result }
 {
-    let end = number_end(bytes, seen, LEVELS, 0)?;
-    to_the_end(bytes, end)
+    let checker = Checker { bytes, seen };
+    let end = checker.number_end(LEVELS, 0)?;
+    checker.to_the_end(end)
 }
 
 // Are the bytes a right truth that sees only these names? Else the place of the first fault.
@@ -103,6 +111,7 @@ pub fn check_truth(bytes: &[u8], seen: &Seen) -> Result<(), usize>
     ensures told { result ≡ checked (expression_fault (whole_truth 8 (seen_of seen.now) bytes.now)) }
     ensures judged { TruthJudged (seen_of seen.now) bytes.now result }
 {
-    let end = truth_end(bytes, seen, LEVELS, 0)?;
-    to_the_end(bytes, end)
+    let checker = Checker { bytes, seen };
+    let end = checker.truth_end(LEVELS, 0)?;
+    checker.to_the_end(end)
 }

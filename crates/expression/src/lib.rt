@@ -3,10 +3,11 @@
 
 mod checking;
 mod evaluation;
+mod evaluator;
 mod operators;
 mod renaming;
 
 pub use checking::{Seen, check_number, check_truth};
 pub use evaluation::{number_value, truth_value};
-pub use operators::{NumberOperator, TruthOperator};
+pub use operators::{NoOperator, NumberOperator, TruthOperator};
 pub use renaming::rename;

@@ -1,5 +1,5 @@
 // The operators of expressions, each by its byte.
-ghost use Rattle.expression.specs.Operators.{number_meant, truth_meant};
+ghost use Rattle.expression.specs.Operators.{number_operator_of, number_meant, truth_operator_of, truth_meant, StandsFor};
 ghost use Rattle.language.specs.Expressions.{byte_at, judged, number_operator, truth_operator};
 ghost use Rattle.std.specs.Prelude.{◌≡◌};
 
@@ -7,7 +7,7 @@ ghost use Rattle.std.specs.Prelude.{◌≡◌};
 pub const LEVELS: u8 = 8;
 
 // What a number begins with: a byte that says whether a constant, a name or two numbers follow.
-#[derive(Clone, Copy)]
+#[derive(Clone, Copy, PartialEq, Eq, Debug)]
 pub enum NumberOperator {
     Constant,
     OldValue,
@@ -17,7 +17,7 @@ pub enum NumberOperator {
 }
 
 // What a truth begins with: two numbers follow, one truth, two truths or nothing.
-#[derive(Clone, Copy)]
+#[derive(Clone, Copy, PartialEq, Eq, Debug)]
 pub enum TruthOperator {
     Equal,
     Less,
@@ -27,55 +27,63 @@ pub enum TruthOperator {
     True,
 }
 
+// The byte is no such operator.
+#[derive(Clone, Copy, PartialEq, Eq, Debug)]
+pub struct NoOperator;
+
 pub fn byte_at(bytes: &[u8], place: usize) -> Option<u8>
     ensures { result ≡ byte_at bytes.now place }
 {
-    if place < bytes.len() {
-        Some(bytes[place])
-    } else {
-        None
+    bytes.get(place).copied()
+}
+
+impl TryFrom<u8> for NumberOperator {
+    type Error = NoOperator;
+
+    ghost try_from_gives = { StandsFor number_operator_of number_operator };
+
+    fn try_from(byte: u8) -> Result<NumberOperator, NoOperator> {
+        match byte {
+            0 => Ok(NumberOperator::Constant),
+            1 => Ok(NumberOperator::OldValue),
+            2 => Ok(NumberOperator::NewValue),
+            3 => Ok(NumberOperator::Sum),
+            4 => Ok(NumberOperator::Difference),
+            _ => Err(NoOperator),
+        }
     }
 }
 
 impl NumberOperator {
-    fn read(byte: u8) -> Option<NumberOperator>
-        ensures { number_meant result ≡ number_operator byte }
-    {
-        match byte {
-            0 => Some(NumberOperator::Constant),
-            1 => Some(NumberOperator::OldValue),
-            2 => Some(NumberOperator::NewValue),
-            3 => Some(NumberOperator::Sum),
-            4 => Some(NumberOperator::Difference),
-            _ => None,
-        }
-    }
-
     pub fn at(bytes: &[u8], place: usize) -> Option<NumberOperator>
         ensures { number_meant result ≡ judged number_operator (byte_at bytes.now place) }
     {
-        NumberOperator::read(byte_at(bytes, place)?)
+        NumberOperator::try_from(byte_at(bytes, place)?).ok()
+    }
+}
+
+impl TryFrom<u8> for TruthOperator {
+    type Error = NoOperator;
+
+    ghost try_from_gives = { StandsFor truth_operator_of truth_operator };
+
+    fn try_from(byte: u8) -> Result<TruthOperator, NoOperator> {
+        match byte {
+            16 => Ok(TruthOperator::Equal),
+            17 => Ok(TruthOperator::Less),
+            18 => Ok(TruthOperator::Not),
+            19 => Ok(TruthOperator::And),
+            20 => Ok(TruthOperator::Or),
+            21 => Ok(TruthOperator::True),
+            _ => Err(NoOperator),
+        }
     }
 }
 
 impl TruthOperator {
-    fn read(byte: u8) -> Option<TruthOperator>
-        ensures { truth_meant result ≡ truth_operator byte }
-    {
-        match byte {
-            16 => Some(TruthOperator::Equal),
-            17 => Some(TruthOperator::Less),
-            18 => Some(TruthOperator::Not),
-            19 => Some(TruthOperator::And),
-            20 => Some(TruthOperator::Or),
-            21 => Some(TruthOperator::True),
-            _ => None,
-        }
-    }
-
     pub fn at(bytes: &[u8], place: usize) -> Option<TruthOperator>
         ensures { truth_meant result ≡ judged truth_operator (byte_at bytes.now place) }
     {
-        TruthOperator::read(byte_at(bytes, place)?)
+        TruthOperator::try_from(byte_at(bytes, place)?).ok()
     }
 }

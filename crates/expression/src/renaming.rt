@@ -1,11 +1,12 @@
 // The exchange of two names in a written expression.
 ghost use Rattle.expression.specs.Renaming.{next_of, NamesExchanged};
 ghost use Rattle.language.specs.Expressions.{operator, following, bytes_renamed};
-ghost use Rattle.model.specs.Exchange.{exchange};
 ghost use Rattle.std.specs.Prelude.{◌≡◌};
 
+use model::exchanged;
+
 // What the next byte of a written expression is.
-#[derive(Clone, Copy)]
+#[derive(Clone, Copy, PartialEq, Eq, Debug)]
 enum Next {
     Operator,
     Constant,
@@ -24,18 +25,6 @@ impl Next {
     }
 }
 
-fn exchanged(name: u8, a: u8, b: u8) -> u8
-    ensures { result ≡ exchange a b name }
-{
-    if name == a {
-        b
-    } else if name == b {
-        a
-    } else {
-        name
-    }
-}
-
 // Puts b for each name a of a written expression, and a for each b. Constants stay as they are.
 pub fn rename(bytes: &mut [u8], a: u8, b: u8)
     ensures renamed { bytes.new ≡ bytes_renamed a b operator bytes.old }
@@ -47,7 +36,7 @@ pub fn rename(bytes: &mut [u8], a: u8, b: u8)
             Next::Operator => Next::after_operator(*byte),
             Next::Constant => Next::Operator,
             Next::Name => {
-                *byte = exchanged(*byte, a, b);
+                *byte = exchanged(a, b, *byte);
                 Next::Operator
             }
         };

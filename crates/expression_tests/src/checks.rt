@@ -1,5 +1,5 @@
 // Right and wrong expressions, and where the first fault lies.
-use crate::building::push_repeated;
+use crate::building::{nothing_seen, repeated};
 use expression::{Seen, check_number, check_truth};
 use model::Names;
 use std::process::Abort;
@@ -10,13 +10,6 @@ fn some_seen() -> Seen {
     Seen {
         old: Names::none().with(0).with(3).with(31),
         new: Names::none().with(1).with(3),
-    }
-}
-
-fn nothing_seen() -> Seen {
-    Seen {
-        old: Names::none(),
-        new: Names::none(),
     }
 }
 
@@ -186,9 +179,7 @@ fn eight_levels(rt: HostRuntime) -> Result<(), Fail> {
         (&[19, 21], 7, &[18, 21], 1, Err(15)),
     ];
     for (part, times, rest, more, answer) in truths {
-        let mut bytes = Vec::new(rt.alloc());
-        push_repeated(&mut bytes, part, times)?;
-        push_repeated(&mut bytes, rest, more)?;
+        let bytes = repeated(rt.alloc(), &[(part, times), (rest, more)])?;
         is_truth(&rt, bytes.as_slice(), answer);
     }
     Ok(())
@@ -203,9 +194,7 @@ fn eight_levels_of_numbers(rt: HostRuntime) -> Result<(), Fail> {
         (&[4, 0, 1], 8, &[2, 3], 1, Err(22)),
     ];
     for (part, times, rest, more, answer) in numbers {
-        let mut bytes = Vec::new(rt.alloc());
-        push_repeated(&mut bytes, part, times)?;
-        push_repeated(&mut bytes, rest, more)?;
+        let bytes = repeated(rt.alloc(), &[(part, times), (rest, more)])?;
         is_number(&rt, bytes.as_slice(), answer);
     }
     Ok(())

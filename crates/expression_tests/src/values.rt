@@ -1,7 +1,7 @@
 // What expressions are worth.
-use crate::building::{push_repeated, push_sum};
-use expression::{Seen, check_number, number_value, truth_value};
-use model::{Names, State};
+use crate::building::{nothing_seen, push_sum, repeated};
+use expression::{check_number, number_value, truth_value};
+use model::State;
 use std::process::Abort;
 use std::test::Fail;
 
@@ -95,31 +95,25 @@ fn wrong_bytes(rt: HostRuntime) {
     }
 }
 
-fn is_worth(rt: &impl Abort, bytes: &Vec<u8>, worth: i16) {
-    let nothing = Seen {
-        old: Names::none(),
-        new: Names::none(),
-    };
-    assert_eq!(rt; check_number(bytes.as_slice(), &nothing), Ok(()));
-    assert_eq!(rt; number_value(bytes.as_slice(), before(), after()), worth);
+fn is_worth(rt: &impl Abort, bytes: &[u8], worth: i16) {
+    assert_eq!(rt; check_number(bytes, &nothing_seen()), Ok(()));
+    assert_eq!(rt; number_value(bytes, before(), after()), worth);
 }
 
 // A number has 62 bytes or more than 64. In 62 bytes, the sum of 21 times 255, and of 20 times 255 taken from 0.
 #[test]
 fn the_range_of_64_bytes(rt: HostRuntime) -> Result<(), Fail> {
-    let mut highest = Vec::new(rt.alloc());
-    push_repeated(&mut highest, &[3], 2)?;
+    let mut highest = repeated(rt.alloc(), &[(&[3], 2)])?;
     push_sum(&mut highest, 16)?;
     push_sum(&mut highest, 4)?;
     push_sum(&mut highest, 1)?;
     assert_eq!(rt; highest.len(), 62);
-    is_worth(&rt, &highest, 5355);
-    let mut lowest = Vec::new(rt.alloc());
-    push_repeated(&mut lowest, &[4, 0, 0, 3], 1)?;
+    is_worth(&rt, highest.as_slice(), 5355);
+    let mut lowest = repeated(rt.alloc(), &[(&[4, 0, 0, 3], 1)])?;
     push_sum(&mut lowest, 16)?;
     push_sum(&mut lowest, 4)?;
     assert_eq!(rt; lowest.len(), 62);
-    is_worth(&rt, &lowest, -5100);
+    is_worth(&rt, lowest.as_slice(), -5100);
     Ok(())
 }
 
@@ -128,13 +122,11 @@ fn the_range_of_64_bytes(rt: HostRuntime) -> Result<(), Fail> {
 fn the_range_of_eight_levels(rt: HostRuntime) -> Result<(), Fail> {
     let mut highest = Vec::new(rt.alloc());
     push_sum(&mut highest, 128)?;
-    is_worth(&rt, &highest, 32640);
-    let mut lowest = Vec::new(rt.alloc());
-    push_repeated(&mut lowest, &[4], 7)?;
-    push_repeated(&mut lowest, &[0], 2)?;
+    is_worth(&rt, highest.as_slice(), 32640);
+    let mut lowest = repeated(rt.alloc(), &[(&[4], 7), (&[0], 2)])?;
     for count in [1, 2, 4, 8, 16, 32, 64] {
         push_sum(&mut lowest, count)?;
     }
-    is_worth(&rt, &lowest, -32385);
+    is_worth(&rt, lowest.as_slice(), -32385);
     Ok(())
 }

@@ -1,26 +1,17 @@
 -- Atoms that await each other through others, one step at a time. Assumes nothing.
-use Rattle.std.proofs.Common.{◌≡◌, ℕ, zero, suc, ◌+◌, ◌<◌, ◌≤◌, Bool, true, false, ◌&&◌, ◌||◌, eqb, ltb, ◌⊎◌, sym, refl, ap, ◌∙◌, ap₂, inl, inr, ⊎_elim, add-one, arith}
-use Rattle.std.proofs.lemmas.Bool.{and_from, and_left, and_right, or_right, lt-ltb, le-ltb, eq-eqb, ne_eqb, cases_eq, cases_lt}
+use Rattle.std.proofs.Common.{◌≡◌, ℕ, zero, suc, ◌+◌, ◌<◌, ◌≤◌, Bool, true, false, ◌&&◌, ◌||◌, ltb, sym, refl, ap, ◌∙◌, ap₂, ⊎_elim, add-one, arith}
+use Rattle.std.proofs.Math.Bool.{or-false}
+use Rattle.std.proofs.lemmas.Bool.{and_left, and_right, lt-ltb, le-ltb, cases_lt}
 use Rattle.model.specs.Meanings.{OutlineFacts}
-use Rattle.model.specs.Sets.{is_name}
 use Rattle.model.specs.Tests.{some}
 use Rattle.units.specs.Sealing.{awaits_atom, awaits_through, circular}
+use Rattle.sights.proofs.Bounds.{some_same}
 use Rattle.fitness.specs.Steps.{steps_to, leads_to, through}
-
--- tests that agree below the bound
-pub some_same : (p q : ℕ → Bool) (n : ℕ) → ((k : ℕ) → k < n → p k ≡ q k) → some p n ≡ some q n
-unfolding some
-some_same p q zero h = refl
-some_same p q (suc n) h = ap₂ ◌||◌ (h n (omega arith)) (some_same p q n (λ k l. h k (omega arith)))
 
 pub some_never : (n : ℕ) → some (λ _. false) n ≡ false
 unfolding some
 some_never zero = refl
 some_never (suc n) = some_never n
-
-or_false : (b : Bool) → (b || false) ≡ b
-or_false true = refl
-or_false false = refl
 
 and_given : (x y : Bool) → x ≡ true → (x && y) ≡ y
 and_given x y e = ap (λ v. v && y) e
@@ -34,7 +25,7 @@ module _ (awaits : ℕ → ℕ → Bool) (atoms goal : ℕ) where
   unfolding through
   behind_none none h a =
       ap (λ v. ltb a atoms && (awaits a goal || v)) (some_same (steps_to awaits none a) (λ _. false) atoms (λ k _. and_right (awaits a k) (none k) (h k)) ∙ some_never atoms)
-      ∙ ap (λ v. ltb a atoms && v) (or_false (awaits a goal))
+      ∙ ap (λ v. ltb a atoms && v) (or-false (awaits a goal))
 
   pub behind_more : (others : ℕ) (before : ℕ → Bool) → ((a : ℕ) → before a ≡ behind others a) → (a : ℕ) → (ltb a atoms && leads_to awaits atoms before goal a) ≡ behind (others + 1) a
   unfolding through
@@ -50,33 +41,17 @@ through_same o awaits h (suc others) a b l m =
     ap₂ ◌||◌ (h a b l m)
     (some_same (λ c. awaits a c && through awaits o.atoms others c b) (λ c. awaits_atom o a c && awaits_through o others c b) o.atoms (λ c k. ap₂ ◌&&◌ (h a c l k) (through_same o awaits h others c b k m)))
 
-pub none_passing : (p : ℕ → Bool) (a : ℕ) → (ltb a 0 && p a) ≡ false
-none_passing p a = and_left (ltb a 0) (p a) (le-ltb a 0 (omega arith))
-
-ltb_next : (a i : ℕ) → (a ≡ i → ⊥) → ltb a i ≡ ltb a (i + 1)
-ltb_next a i ne =
-    ⊎_elim (λ h. lt-ltb a i h ∙ sym (lt-ltb a (i + 1) (omega arith))) (λ h. le-ltb a i h ∙ sym (le-ltb a (i + 1) (omega arith))) (cases_lt a i)
-
--- a set of the numbers below a bound that pass, with one number more
-pub with_passing : (p s t : ℕ → Bool) (i : ℕ) → i < 32 → ((a : ℕ) → s a ≡ (ltb a i && p a)) → ((a : ℕ) → t a ≡ (s a || is_name i a)) → p i ≡ true → (a : ℕ) → t a ≡ (ltb a (i + 1) && p a)
-with_passing p s t i l hs ht e a = ht a ∙ go (cases_eq a i)
+-- fewer than 32 numbers are names
+pub gathered : (n : ℕ) → n ≤ 16 → (a : ℕ) (b : Bool) → (ltb a 32 && (ltb a n && b)) ≡ (ltb a n && b)
+gathered n few a b = ⊎_elim (λ h. and_given (ltb a 32) (ltb a n && b) (lt-ltb a 32 (omega arith))) (λ h. and_right (ltb a 32) (ltb a n && b) (none h) ∙ sym (none h)) (cases_lt a n)
   where
-    go : (a ≡ i) ⊎ (a ≡ i → ⊥) → (s a || is_name i a) ≡ (ltb a (i + 1) && p a)
-    go (inl eq) =
-        or_right (s a) (is_name i a) (and_from (eqb a i) (ltb i 32) (eq-eqb a i eq) (lt-ltb i 32 l))
-        ∙ sym (and_from (ltb a (i + 1)) (p a) (lt-ltb a (i + 1) (omega arith)) (ap p eq ∙ e))
-    go (inr ne) =
-        ap (λ v. s a || v) (and_left (eqb a i) (ltb i 32) (ne_eqb a i ne)) ∙ or_false (s a) ∙ hs a ∙ ap (λ v. v && p a) (ltb_next a i ne)
+    none : n ≤ a → (ltb a n && b) ≡ false
+    none h = and_left (ltb a n) b (le-ltb a n h)
 
--- the same where it does not pass
-pub with_failing : (p s : ℕ → Bool) (i : ℕ) → ((a : ℕ) → s a ≡ (ltb a i && p a)) → p i ≡ false → (a : ℕ) → s a ≡ (ltb a (i + 1) && p a)
-with_failing p s i hs e a = hs a ∙ go (cases_eq a i)
-  where
-    go : (a ≡ i) ⊎ (a ≡ i → ⊥) → (ltb a i && p a) ≡ (ltb a (i + 1) && p a)
-    go (inl eq) = and_right (ltb a i) (p a) (ap p eq ∙ e) ∙ sym (and_right (ltb a (i + 1)) (p a) (ap p eq ∙ e))
-    go (inr ne) = ap (λ v. v && p a) (ltb_next a i ne)
-
+-- so it tells which atoms are circular
 pub circular_by : (o : OutlineFacts) (awaits : ℕ → ℕ → Bool) → ((a b : ℕ) → a < 16 → b < 16 → awaits a b ≡ awaits_atom o a b) → o.atoms ≤ 16 →
-    (atoms : ℕ) → atoms ≡ o.atoms → (a : ℕ) → a < o.atoms → (r : Bool) → r ≡ through awaits atoms atoms a a → circular o a ≡ r
-circular_by o awaits h few atoms e a l r f =
-    sym (f ∙ ap (λ n. through awaits n n a a) e ∙ through_same o awaits (λ x y p q. h x y (omega arith) (omega arith)) o.atoms a a l l)
+    (n : ℕ) → n ≡ o.atoms → (a : ℕ) → a < n → (ltb a n && through awaits n n a a) ≡ circular o a
+circular_by o awaits h few n e a l =
+    and_given (ltb a n) (through awaits n n a a) (lt-ltb a n l)
+    ∙ ap (λ k. through awaits k k a a) e
+    ∙ through_same o awaits (λ x y p q. h x y (omega arith) (omega arith)) o.atoms a a (omega arith) (omega arith)

@@ -1,5 +1,4 @@
+pub mod Checks
 pub mod Factors
-pub mod Seen
 pub mod Steps
-pub mod Verdicts
 pub mod Witnesses

@@ -1,17 +1,17 @@
 -- Atoms that await each other, one step at a time. Assumes nothing.
-use Rattle.std.specs.Prelude.{ℕ, zero, suc, ◌+◌, ◌*◌, Bool, false, ◌&&◌, ◌||◌, slice_index_or}
-use Rattle.model.specs.Sets.{has}
+use Rattle.std.specs.Prelude.{◌≡◌, ℕ, zero, suc, ◌<◌, Bool, false, List, [], ◌&&◌, ◌||◌, nat_lt, slice_index_or}
+use Rattle.model.specs.Meanings.{OutlineFacts}
 use Rattle.model.specs.Tests.{some}
-use Rattle.model.specs.declared.names.Names.{Names}
+use Rattle.units.specs.Sealing.{awaits_atom}
 use Rattle.fitness.specs.declared.table.Table.{Table}
 
--- the name is in both sets
-abbrev pub shared : Names → Names → ℕ → Bool
-shared s t n = has s n && has t n
-
--- the table's mark for the two atoms
+-- the table's mark for the two atoms, none where there are no such atoms
 abbrev pub direct : Table → ℕ → ℕ → Bool
-direct t a b = slice_index_or t.marks (16 * a + b) false
+direct t a b = nat_lt a 16 && nat_lt b 16 && slice_index_or (slice_index_or t.marks a []) b false
+
+-- the marks of an atom are right for each of the first 16 atoms
+abbrev pub Awaited : OutlineFacts → ℕ → List Bool → Type 0
+Awaited o a marks = (b : ℕ) → b < 16 → slice_index_or marks b false ≡ awaits_atom o a b
 
 -- the atom awaits the other one, which is behind
 abbrev pub steps_to : (ℕ → ℕ → Bool) → (ℕ → Bool) → ℕ → ℕ → Bool

@@ -2,12 +2,11 @@
 #![tactic(auto)]
 
 mod awaiting;
+mod check;
 mod controlling;
 mod judging;
-mod leaves;
 mod looking;
 mod products;
-mod rows;
 mod sight;
 mod table;
 mod width;

@@ -9,7 +9,6 @@ use drawing::{Drawing, Outline};
 use sights::{Sight, Test, first_sight};
 
 fn witness<D: Drawing>(drawing: &D, test: Test, atom: u8) -> Option<Sight>
-    requires { D.Outline.whole drawing.now }
     ensures first { result ≡ witness (D.Outline.outline drawing.now) (D.Drawing.meaning drawing.now) test atom }
     ensures told { WitnessTold (D.Outline.outline drawing.now) (D.Drawing.meaning drawing.now) test atom result }
 {
@@ -21,7 +20,6 @@ fn witness<D: Drawing>(drawing: &D, test: Test, atom: u8) -> Option<Sight>
 
 // The first values in range of what the atom sees at which it has no open choice.
 pub fn stuck_at<D: Drawing>(drawing: &D, atom: u8) -> Option<Sight>
-    requires { D.Outline.whole drawing.now }
     ensures first { result ≡ witness (D.Outline.outline drawing.now) (D.Drawing.meaning drawing.now) NothingOpen atom }
     ensures told { WitnessTold (D.Outline.outline drawing.now) (D.Drawing.meaning drawing.now) NothingOpen atom result }
 {
@@ -30,7 +28,6 @@ pub fn stuck_at<D: Drawing>(drawing: &D, atom: u8) -> Option<Sight>
 
 // The first values in range of what the atom sees at which an open choice gives a value out of range.
 pub fn outside_at<D: Drawing>(drawing: &D, atom: u8) -> Option<Sight>
-    requires { D.Outline.whole drawing.now }
     ensures first { result ≡ witness (D.Outline.outline drawing.now) (D.Drawing.meaning drawing.now) GivesOutside atom }
     ensures told { WitnessTold (D.Outline.outline drawing.now) (D.Drawing.meaning drawing.now) GivesOutside atom result }
 {

@@ -1,4 +1,3 @@
 pub mod Behaviour
 pub mod Opening
-pub mod PartRows
 pub mod Works

@@ -1,6 +1,7 @@
 -- A gate list's initial states and successors are those in which its gates have worked. Assumes nothing.
-use Rattle.std.proofs.Common.{◌≡◌, ℕ, zero, suc, ◌/◌, ◌<◌, ◌≤◌, true, false, cond, eqb, ltb, ◌↔◌, List, [], ◌∷◌, length, pos, is_some, Some, None, Option, sym, refl, ap, ◌∙◌, subst, arith}
+use Rattle.std.proofs.Common.{◌≡◌, ℕ, zero, suc, ◌/◌, ◌<◌, ◌≤◌, true, false, cond, eqb, ltb, ◌↔◌, List, [], ◌∷◌, length, pos, is_some, Some, None, Option, Result, Ok, Err, sym, refl, ap, ◌∙◌, subst, arith}
 use Rattle.std.proofs.lemmas.Bool.{and_parts, eqb-true, ltb-true, cond-true}
+use Rattle.std.proofs.lemmas.Option.{slice_get_within}
 use Rattle.std.specs.List.{AllByRecursion as All, slice_get}
 use Rattle.model.specs.Meanings.{Valuation, Meaning}
 use Rattle.model.specs.States.{value, is_state, yields, nothing, InitialState, Successor}
@@ -9,12 +10,15 @@ use Rattle.model.specs.declared.Round.{Round}
 use Rattle.model.specs.declared.Round.TheVariants.{Initial, Update}
 use Rattle.model.proofs.States.{state_parts, Taken, takes_parts, takes_from, yields_parts, yields_from}
 use Rattle.gates.specs.Behaviour.{Works, GatesWork, gates_of}
-use Rattle.gates.specs.Drawn.{meaning_of, listed_few}
+use Rattle.gates.specs.Drawn.{meaning_of, found_laws}
 use Rattle.gates.specs.GateLists.{Opened, opened, opened_at, fault_place, parts_upto}
 use Rattle.gates.specs.Gates.{all_small, small, target, controls_of, choices_of, opens_of, gives_of}
 use Rattle.gates.specs.Laws.{list_meaning, small_nth, nth_some, controls_target}
 use Rattle.gates.specs.Meaning.{kind_in, list_outline, told, given_to}
-use Rattle.gates.specs.Readings.{reading}
+use Rattle.gates.specs.OpenedLaws.{opened_laws}
+use Rattle.gates.specs.Readings.{found, reading}
+use Rattle.gates.specs.Rows.{found_parts}
+use Rattle.model.specs.declared.row.Row.{Row}
 use Rattle.gates.specs.declared.gate.Part.{Part}
 use Rattle.gates.specs.declared.list.GateList.{GateList}
 use Rattle.gates.proofs.Behaviour.{Chosen, Bits, all_work, all_worked}
@@ -27,11 +31,6 @@ nth_all : (P : Part → Type 0) (ps : List Part) (a : ℕ) (p : Part) → All P 
 nth_all P [] a p h e = let z : ◌≡◌ {A = ℕ} 0 1 = cc in absurd (omega arith)
 nth_all P (q ∷ ps) zero p h e = let is : q ≡ p = cc in subst P is h.0
 nth_all P (q ∷ ps) (suc a) p h e = nth_all P ps a p h.1 e
-
-nth_inside : (ps : List Part) (a : ℕ) (p : Part) → slice_get ps a ≡ Some p → a < length ps
-nth_inside [] a p e = let z : ◌≡◌ {A = ℕ} 0 1 = cc in absurd (omega arith)
-nth_inside (q ∷ ps) zero p e = omega arith
-nth_inside (q ∷ ps) (suc a) p e = omega (arith, nth_inside ps a p e)
 
 at_most_one : (o : Option Kind) → cond (is_some o) 1 0 ≤ 1
 at_most_one None = omega arith
@@ -75,7 +74,7 @@ module _ (l : Opened) (few : length l.parts ≤ 16) (tight : all_small l.parts �
   to_parts : (r : Round) (s t : List ℕ) → yields m r s t ≡ true → All (Chosen r (value s) (value t)) l.parts
   to_parts r s t h =
       all_nth (Chosen r (value s) (value t)) l.parts
-      (λ a p e. let k = (yields_parts m r s t h).1 a (nth_inside l.parts a p e) in to_chosen r (value s) (value t) a p e k.0 k.1 (takes_parts m r a k.0 (value s) (value t) k.2))
+      (λ a p e. let k = (yields_parts m r s t h).1 a (slice_get_within l.parts a p e) in to_chosen r (value s) (value t) a p e k.0 k.1 (takes_parts m r a k.0 (value s) (value t) k.2))
 
   from_parts : (r : Round) (s t : List ℕ) → is_state (list_outline l) t ≡ true → All (Chosen r (value s) (value t)) l.parts → yields m r s t ≡ true
   from_parts r s t h all =
@@ -95,12 +94,19 @@ module _ (l : Opened) (few : length l.parts ≤ 16) (tight : all_small l.parts �
         λ h. from_parts r s t h.0 (subst (All (Chosen r (value s) (value t))) (sym same) (all_worked (value s) (value t) (bits t h.0) r (gates_of bs) h.1)),
       )
 
+-- what is opened names only names
+pub small_found : (r : Result (Row Part 16) ℕ) (bs : List ℕ) → found r ≡ opened bs → all_small (found_parts r) ≡ true
+small_found (Ok row) bs e = ap (λ (o : Opened). all_small o.parts) e ∙ (opened_laws bs).tight
+small_found (Err place) bs e = refl
+
 pub gates_work : (g : GateList) (bs : List ℕ) → reading g ≡ opened bs → GatesWork bs (meaning_of g)
 gates_work g bs e = record {
   initially = λ fine t.
-      let both = yields_works (reading g) (listed_few g.parts) g.parts.small g.clean bs e fine Initial nothing t in
+      let laws = found_laws g.found g.small in
+      let both = yields_works (reading g) laws.few laws.tight laws.clean bs e fine Initial nothing t in
       (λ (h : InitialState (meaning_of g) t). both.0 h.yielded, λ h. record { yielded = both.1 h });
   later = λ fine s t.
-      let both = yields_works (reading g) (listed_few g.parts) g.parts.small g.clean bs e fine Update s t in
+      let laws = found_laws g.found g.small in
+      let both = yields_works (reading g) laws.few laws.tight laws.clean bs e fine Update s t in
       (λ (h : Successor (meaning_of g) s t). both.0 h.yielded, λ h. record { yielded = both.1 h });
 }

@@ -1,5 +1,6 @@
 -- Gates and the atoms that they are made of. Assumes nothing.
-use Rattle.std.specs.Prelude.{ℕ, Bool, true, false, cond, ◌&&◌, ◌||◌, List, [], ◌∷◌, Some, None, Option, ◌==◌, nat_lt}
+use Rattle.std.specs.Prelude.{◌≡◌, ℕ, Bool, false, cond, ◌&&◌, ◌||◌, List, [], ◌∷◌, Some, None, Option, Result, MatchResult, ◌==◌, nat_lt, slice_index}
+use Rattle.std.specs.List.{list_any, list_all}
 use Rattle.model.specs.Meanings.{Valuation}
 use Rattle.model.specs.Sets.{is_name}
 use Rattle.model.specs.declared.Round.{Round}
@@ -8,6 +9,7 @@ use Rattle.gates.specs.declared.gate.Field.{Field}
 use Rattle.gates.specs.declared.gate.Field.TheVariants.{Input, Out, Own}
 use Rattle.gates.specs.declared.gate.Gate.{Gate}
 use Rattle.gates.specs.declared.gate.Gate.TheVariants.{Not, And, Latch}
+use Rattle.gates.specs.declared.gate.Malformed.{Malformed}
 use Rattle.gates.specs.declared.gate.Part.{Part}
 use Rattle.gates.specs.declared.gate.Part.TheVariants.{Inverter, Conjunction, LatchOutput, LatchStore}
 
@@ -18,6 +20,14 @@ gate_of kind a b out own =
     cond (kind == 0 && nat_lt a 32 && b == 255 && nat_lt out 32 && own == 255) (Some (Not a out))
     (cond (kind == 1 && nat_lt a 32 && nat_lt b 32 && nat_lt out 32 && own == 255) (Some (And a b out))
     (cond (kind == 2 && nat_lt a 32 && nat_lt b 32 && nat_lt out 32 && nat_lt own 32) (Some (Latch a b out own)) None))
+
+-- the gate that a record of five bytes describes
+abbrev pub gate_in : List ℕ → Option Gate
+gate_in r = gate_of (slice_index r 0) (slice_index r 1) (slice_index r 2) (slice_index r 3) (slice_index r 4)
+
+-- the record describes the gate, or none where there is an error
+abbrev pub Describes : List ℕ → Result Gate Malformed → Type 0
+Describes r result = MatchResult result (λ gate. gate_in r ≡ Some gate) (λ _. gate_in r ≡ None)
 
 -- the atoms of a gate: a latch is two, its output before its store
 abbrev pub parts_of : Gate → List Part
@@ -99,10 +109,8 @@ small (LatchOutput out own) = nat_lt out 32 && nat_lt own 32
 small (LatchStore set reset own) = nat_lt set 32 && nat_lt reset 32 && nat_lt own 32
 
 abbrev pub all_small : List Part → Bool
-all_small [] = true
-all_small (p ∷ ps) = small p && all_small ps
+all_small ps = list_all small ps
 
 -- is the name in such a field of some part
 abbrev pub used : Field → List Part → ℕ → Bool
-used f [] n = false
-used f (p ∷ ps) n = uses f p n || used f ps n
+used f ps n = list_any (λ p. uses f p n) ps

@@ -3,7 +3,8 @@ use Rattle.std.specs.Prelude.{◌≡◌, ℕ, zero, suc, ◌<◌, ◌≤◌, Boo
 use Rattle.std.proofs.Common.{inl, inr, ⊎_elim, sym, ap, ap₂, subst, ◌∙◌, le_of_suc-le-suc, not-suc-le-zero, arith}
 use Rattle.std.specs.Int.Signed.{le_z_yes}
 use Rattle.std.proofs.lemmas.List.{nil_from_length}
-use Rattle.std.proofs.lemmas.Bool.{and_from, and_parts, or_left, or_right, or_cases, eqb-true, eq-eqb, ltb-true, cond-false, both_ways, ne_eqb, le-ltb, le-leb}
+use Rattle.std.proofs.lemmas.Bool.Decides.{nat_tests}
+use Rattle.std.proofs.lemmas.Bool.{and_from, and_parts, or_left, or_right, or_cases, eq-eqb, cond-false, both_ways, le-leb}
 use Rattle.std.proofs.lemmas.Option.{slice_get_past}
 use Rattle.std.specs.List.{slice_get}
 use Rattle.model.specs.Meanings.{Valuation, Bytes, OutlineLaws, ChoiceLaws, Meaning}
@@ -29,12 +30,6 @@ is_same k s = and_from (k == k) (nat_lt k 32) (eq-eqb k k refl) s
 same : (k n : ℕ) → is_name k n ≡ true → (n == k) ≡ true
 same k n h = (and_parts (n == k) (nat_lt k 32) h).0
 
-under : (k n : ℕ) → (n == k) ≡ true → nat_lt k 32 ≡ true → n < 32
-under k n e s = omega (arith, eqb-true n k e, ltb-true k 32 s)
-
-under_either : (j k n : ℕ) → (n == j || n == k) ≡ true → nat_lt j 32 ≡ true → nat_lt k 32 ≡ true → n < 32
-under_either j k n e s t = ⊎_elim (λ h. under j n h s) (λ h. under k n h t) (or_cases (n == j) (n == k) e)
-
 same_either : (j k n : ℕ) → (is_name j n || is_name k n) ≡ true → (n == j || n == k) ≡ true
 same_either j k n h =
     ⊎_elim (λ e. or_left (n == j) (n == k) (same j n e)) (λ e. or_right (n == j) (n == k) (same k n e)) (or_cases (is_name j n) (is_name k n) h)
@@ -42,22 +37,18 @@ same_either j k n h =
 -- what is used in a part
 
 uses_small : (f : Field) (p : Part) (n : ℕ) → small p ≡ true → uses f p n ≡ true → n < 32
-uses_small Input (Inverter a out) n s u = under a n u (and_parts (nat_lt a 32) (nat_lt out 32) s).0
-uses_small Input (Conjunction a b out) n s u =
-    let two = and_parts (nat_lt a 32) (nat_lt b 32) (and_parts (nat_lt a 32 && nat_lt b 32) (nat_lt out 32) s).0 in
-    under_either a b n u two.0 two.1
-uses_small Input (LatchOutput out own) n s u = absurd (both_ways false refl u)
-uses_small Input (LatchStore set reset own) n s u =
-    let two = and_parts (nat_lt set 32) (nat_lt reset 32) (and_parts (nat_lt set 32 && nat_lt reset 32) (nat_lt own 32) s).0 in
-    under_either set reset n u two.0 two.1
-uses_small Out (Inverter a out) n s u = under out n u (and_parts (nat_lt a 32) (nat_lt out 32) s).1
-uses_small Out (Conjunction a b out) n s u = under out n u (and_parts (nat_lt a 32 && nat_lt b 32) (nat_lt out 32) s).1
-uses_small Out (LatchOutput out own) n s u = under out n u (and_parts (nat_lt out 32) (nat_lt own 32) s).0
-uses_small Out (LatchStore set reset own) n s u = absurd (both_ways false refl u)
-uses_small Own (Inverter a out) n s u = absurd (both_ways false refl u)
-uses_small Own (Conjunction a b out) n s u = absurd (both_ways false refl u)
-uses_small Own (LatchOutput out own) n s u = under own n u (and_parts (nat_lt out 32) (nat_lt own 32) s).1
-uses_small Own (LatchStore set reset own) n s u = under own n u (and_parts (nat_lt set 32 && nat_lt reset 32) (nat_lt own 32) s).1
+uses_small Input (Inverter a out) n s u = grind (arith, nat_tests)
+uses_small Input (Conjunction a b out) n s u = grind (arith, nat_tests)
+uses_small Input (LatchOutput out own) n s u = grind (arith, nat_tests)
+uses_small Input (LatchStore set reset own) n s u = grind (arith, nat_tests)
+uses_small Out (Inverter a out) n s u = grind (arith, nat_tests)
+uses_small Out (Conjunction a b out) n s u = grind (arith, nat_tests)
+uses_small Out (LatchOutput out own) n s u = grind (arith, nat_tests)
+uses_small Out (LatchStore set reset own) n s u = grind (arith, nat_tests)
+uses_small Own (Inverter a out) n s u = grind (arith, nat_tests)
+uses_small Own (Conjunction a b out) n s u = grind (arith, nat_tests)
+uses_small Own (LatchOutput out own) n s u = grind (arith, nat_tests)
+uses_small Own (LatchStore set reset own) n s u = grind (arith, nat_tests)
 
 -- what a part controls it uses as its out or its own
 abbrev Owned : Part → ℕ → Type 0
@@ -157,9 +148,6 @@ none_of_none o h = ap (λ q. cond (is_some q) 1 0) h
 
 -- choices
 
-above : (k j : ℕ) → j < k → (k == j) ≡ false
-above k j h = ne_eqb k j (λ e. omega arith)
-
 some_choice : (r : Round) (p : Part) → 1 ≤ choices_of r p
 some_choice r (Inverter a out) = omega arith
 some_choice r (Conjunction a b out) = omega arith
@@ -175,18 +163,18 @@ few_choices Update (LatchOutput out own) = omega arith
 few_choices r (LatchStore set reset own) = omega arith
 
 absent_closed : (r : Round) (p : Part) (k : ℕ) (new : Valuation) → choices_of r p ≤ k → opens_of r p k new ≡ false
-absent_closed r (Inverter a out) k new h = rw (above k 0 (omega arith), above k 1 (omega arith)) refl
-absent_closed r (Conjunction a b out) k new h = rw (above k 0 (omega arith), above k 1 (omega arith), above k 2 (omega arith)) refl
-absent_closed Initial (LatchOutput out own) k new h = le-ltb k 2 h
-absent_closed Update (LatchOutput out own) k new h = above k 0 h
-absent_closed r (LatchStore set reset own) k new h = rw (above k 0 (omega arith), above k 1 (omega arith), above k 2 (omega arith)) refl
+absent_closed r (Inverter a out) k new h = grind (arith, nat_tests)
+absent_closed r (Conjunction a b out) k new h = grind (arith, nat_tests)
+absent_closed Initial (LatchOutput out own) k new h = grind (arith, nat_tests)
+absent_closed Update (LatchOutput out own) k new h = grind (arith, nat_tests)
+absent_closed r (LatchStore set reset own) k new h = grind (arith, nat_tests)
 
 absent_gives : (r : Round) (p : Part) (k : ℕ) (old : Valuation) → choices_of r p ≤ k → gives_of r p k old ≡ 0
-absent_gives r (Inverter a out) k old h = rw (above k 0 (omega arith)) refl
-absent_gives r (Conjunction a b out) k old h = rw (above k 2 (omega arith)) refl
-absent_gives Initial (LatchOutput out own) k old h = rw (above k 1 (omega arith)) refl
-absent_gives Update (LatchOutput out own) k old h = rw (above k 0 (omega arith)) refl
-absent_gives r (LatchStore set reset own) k old h = rw (above k 0 (omega arith), above k 2 (omega arith)) refl
+absent_gives r (Inverter a out) k old h = grind (arith, nat_tests)
+absent_gives r (Conjunction a b out) k old h = grind (arith, nat_tests)
+absent_gives Initial (LatchOutput out own) k old h = grind (arith, nat_tests)
+absent_gives Update (LatchOutput out own) k old h = grind (arith, nat_tests)
+absent_gives r (LatchStore set reset own) k old h = grind (arith, nat_tests)
 
 -- a choice between two bytes is a byte
 cond_byte : (b : Bool) (x y : ℕ) → x ≤ 255 → y ≤ 255 → cond b x y ≤ 255

@@ -6,4 +6,5 @@ pub mod Laws
 pub mod Meaning
 pub mod OpenedLaws
 pub mod Readings
+pub mod Records
 pub mod Rows

@@ -1,9 +1,12 @@
 -- What is read of a gate list without fault has at most 16 atoms, with names in them; so any bytes have a meaning.
 -- Assumes nothing.
-use Rattle.std.specs.Prelude.{◌≡◌, ℕ, zero, suc, ◌+◌, ◌*◌, ◌/◌, ◌%◌, ◌≤◌, Bool, true, false, cond, not, ◌&&◌, ltb, List, [], ◌∷◌, ◌++◌, length, is_some, Some, None, Option, ◌==◌, nat_lt, refl}
+use Rattle.std.specs.Prelude.{◌≡◌, ℕ, zero, suc, ◌+◌, ◌*◌, ◌/◌, ◌%◌, ◌≤◌, Bool, true, false, cond, not, ◌&&◌, List, [], ◌++◌, length, is_some, Some, None, Option, ◌==◌, nat_lt, refl}
 use Rattle.std.proofs.Common.{sym, ap, subst, ◌∙◌, arith}
-use Rattle.std.proofs.lemmas.List.{append-nil, append_assoc}
-use Rattle.std.proofs.lemmas.Bool.{and_from, and_parts, or_parts, ltb-false, both_ways}
+use Rattle.std.proofs.lemmas.Grind.{flat_map-append}
+use Rattle.std.proofs.lemmas.List.{append-nil}
+use Rattle.std.proofs.lemmas.List.Folds.{list_all-append}
+use Rattle.std.proofs.lemmas.Bool.Decides.{nat_tests}
+use Rattle.std.proofs.lemmas.Bool.{and_from, or_parts, ltb-false, both_ways}
 use Rattle.std.specs.Option.{option_to_list}
 use Rattle.std.specs.List.{flat_map}
 use Rattle.model.specs.Meanings.{Meaning}
@@ -14,13 +17,6 @@ use Rattle.gates.specs.Gates.{gate_of, parts_of, small, all_small}
 use Rattle.gates.specs.Laws.{list_meaning}
 use Rattle.gates.specs.declared.gate.Gate.{Gate}
 use Rattle.gates.specs.declared.gate.Gate.TheVariants.{Not, And, Latch}
-use Rattle.gates.specs.declared.gate.Part.{Part}
-
--- one after the other
-
-pub joined_append : {X A : Type 0} (f : X → List A) (xs ys : List X) → flat_map f (xs ++ ys) ≡ flat_map f xs ++ flat_map f ys
-joined_append f [] ys = refl
-joined_append f (x ∷ xs) ys = ap (λ l. f x ++ l) (joined_append f xs ys) ∙ sym (append_assoc (f x) (flat_map f xs) (flat_map f ys))
 
 pub parts_none : (bs : List ℕ) → parts_upto bs 0 ≡ []
 unfolding gates_upto
@@ -29,50 +25,23 @@ parts_none bs = refl
 pub parts_more : (bs : List ℕ) (i : ℕ) (g : Gate) → gate_at bs i ≡ Some g → parts_upto bs (suc i) ≡ parts_upto bs i ++ parts_of g
 unfolding gates_upto
 parts_more bs i g e =
-    joined_append parts_of (gates_upto bs i) (option_to_list (gate_at bs i)) ∙ ap (λ o. parts_upto bs i ++ flat_map parts_of (option_to_list o)) e ∙ ap (λ l. parts_upto bs i ++ l) (append-nil (parts_of g))
-
-pub small_append : (ps qs : List Part) → all_small ps ≡ true → all_small qs ≡ true → all_small (ps ++ qs) ≡ true
-small_append [] qs h k = k
-small_append (p ∷ ps) qs h k =
-    let both = and_parts (small p) (all_small ps) h in
-    and_from (small p) (all_small (ps ++ qs)) both.0 (small_append ps qs both.1 k)
+    flat_map-append parts_of (gates_upto bs i) (option_to_list (gate_at bs i)) ∙ ap (λ o. parts_upto bs i ++ flat_map parts_of (option_to_list o)) e ∙ ap (λ l. parts_upto bs i ++ l) (append-nil (parts_of g))
 
 -- a gate that was read has only names
 pub gate_small : (kind a b out own : ℕ) (g : Gate) → gate_of kind a b out own ≡ Some g → all_small (parts_of g) ≡ true
 gate_small kind a b out own g e =
     go (kind == 0 && nat_lt a 32 && b == 255 && nat_lt out 32 && own == 255) (kind == 1 && nat_lt a 32 && nat_lt b 32 && nat_lt out 32 && own == 255) (kind == 2 && nat_lt a 32 && nat_lt b 32 && nat_lt out 32 && nat_lt own 32) refl refl refl e
   where
-    split : (v w x y z : Bool) → (v && w && x && y && z) ≡ true → (w ≡ true) × (x ≡ true) × (y ≡ true) × (z ≡ true)
-    split v w x y z h =
-        let one = and_parts (v && w && x && y) z h in
-        let two = and_parts (v && w && x) y one.0 in
-        let three = and_parts (v && w) x two.0 in
-        ((and_parts v w three.0).1, three.1, two.1, one.1)
-
-    inverter : ltb a 32 ≡ true → nat_lt out 32 ≡ true → all_small (parts_of (Not a out)) ≡ true
-    inverter h k = and_from (nat_lt a 32 && nat_lt out 32) true (and_from (nat_lt a 32) (nat_lt out 32) h k) refl
-
-    conjunction : ltb a 32 ≡ true → nat_lt b 32 ≡ true → nat_lt out 32 ≡ true → all_small (parts_of (And a b out)) ≡ true
-    conjunction h k l = and_from (nat_lt a 32 && nat_lt b 32 && nat_lt out 32) true (and_from (nat_lt a 32 && nat_lt b 32) (nat_lt out 32) (and_from (nat_lt a 32) (nat_lt b 32) h k) l) refl
-
-    latch : ltb a 32 ≡ true → nat_lt b 32 ≡ true → nat_lt out 32 ≡ true → nat_lt own 32 ≡ true → all_small (parts_of (Latch a b out own)) ≡ true
-    latch h k l m =
-        and_from (nat_lt out 32 && nat_lt own 32) _ (and_from (nat_lt out 32) (nat_lt own 32) l m)
-        (and_from (nat_lt a 32 && nat_lt b 32 && nat_lt own 32) true (and_from (nat_lt a 32 && nat_lt b 32) (nat_lt own 32) (and_from (nat_lt a 32) (nat_lt b 32) h k) m) refl)
-
     go : (s t u : Bool) → (kind == 0 && nat_lt a 32 && b == 255 && nat_lt out 32 && own == 255) ≡ s → (kind == 1 && nat_lt a 32 && nat_lt b 32 && nat_lt out 32 && own == 255) ≡ t → (kind == 2 && nat_lt a 32 && nat_lt b 32 && nat_lt out 32 && nat_lt own 32) ≡ u → cond s (Some (Not a out)) (cond t (Some (And a b out)) (cond u (Some (Latch a b out own)) None)) ≡ Some g → all_small (parts_of g) ≡ true
     go true t u p q r is =
         let same : Not a out ≡ g = cc in
-        let k = split (kind == 0) (nat_lt a 32) (b == 255) (nat_lt out 32) (own == 255) p in
-        subst (λ h. all_small (parts_of h) ≡ true) same (inverter k.0 k.2)
+        subst (λ h. all_small (parts_of h) ≡ true) same (grind (arith, nat_tests, p))
     go false true u p q r is =
         let same : And a b out ≡ g = cc in
-        let k = split (kind == 1) (nat_lt a 32) (nat_lt b 32) (nat_lt out 32) (own == 255) q in
-        subst (λ h. all_small (parts_of h) ≡ true) same (conjunction k.0 k.1 k.2)
+        subst (λ h. all_small (parts_of h) ≡ true) same (grind (arith, nat_tests, q))
     go false false true p q r is =
         let same : Latch a b out own ≡ g = cc in
-        let k = split (kind == 2) (nat_lt a 32) (nat_lt b 32) (nat_lt out 32) (nat_lt own 32) r in
-        subst (λ h. all_small (parts_of h) ≡ true) same (latch k.0 k.1 k.2 k.3)
+        subst (λ h. all_small (parts_of h) ≡ true) same (grind (arith, nat_tests, r))
     go false false false p q r is = let z : ◌≡◌ {A = ℕ} 0 1 = cc in absurd (omega arith)
 
 pub gate_small_at : (bs : List ℕ) (i : ℕ) (g : Gate) → gate_at bs i ≡ Some g → all_small (parts_of g) ≡ true
@@ -99,7 +68,7 @@ pub small_upto : (bs : List ℕ) (n : ℕ) → Clear (breaks bs) n → all_small
 small_upto bs zero c = ap all_small (parts_none bs)
 small_upto bs (suc n) c =
     let k = keeps_rules bs n (c n (omega arith)) in
-    ap all_small (parts_more bs n k.gate k.described) ∙ small_append (parts_upto bs n) (parts_of k.gate) (small_upto bs n (λ i l. c i (omega arith))) (gate_small_at bs n k.gate k.described)
+    ap all_small (parts_more bs n k.gate k.described) ∙ list_all-append small (parts_upto bs n) (parts_of k.gate) ∙ and_from _ _ (small_upto bs n (λ i l. c i (omega arith))) (gate_small_at bs n k.gate k.described)
 
 no_break : (bs : List ℕ) → fault_place bs ≡ None → Clear (breaks bs) (length bs / 5)
 no_break bs e = go (length bs % 5 == 0) e

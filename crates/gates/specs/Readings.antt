@@ -1,13 +1,15 @@
 -- What an opened gate list holds. Assumes nothing.
-use Rattle.std.specs.Prelude.{◌≡◌, ℕ, suc, true, false, List, Option, MatchOption}
-use Rattle.gates.specs.GateLists.{Opened, breaks, parts_upto}
-use Rattle.gates.specs.Rows.{listed}
+use Rattle.std.specs.Prelude.{ℕ, None, Result, Ok, Err}
+use Rattle.model.specs.Rows.{listed}
+use Rattle.model.specs.declared.row.Row.{Row}
+use Rattle.gates.specs.GateLists.{Opened, faulty}
+use Rattle.gates.specs.declared.gate.Part.{Part}
 use Rattle.gates.specs.declared.list.GateList.{GateList}
-use Rattle.gates.specs.declared.parts.Parts.{Parts}
+
+-- the parts of a list without fault, or the place of the fault and no parts
+abbrev pub found : Result (Row Part 16) ℕ → Opened
+found (Ok row) = record { wrong = None; parts = listed row }
+found (Err place) = faulty place
 
 abbrev pub reading : GateList → Opened
-reading l = record { wrong = l.wrong; parts = listed l.parts }
-
--- record i breaks a rule, or these are the atoms up to it
-abbrev pub Judged : List ℕ → ℕ → Option Parts → Type 0
-Judged bs i r = MatchOption r (breaks bs i ≡ true) (λ q. (breaks bs i ≡ false) × (listed q ≡ parts_upto bs (suc i)))
+reading l = found l.found

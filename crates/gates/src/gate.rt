@@ -1,6 +1,6 @@
 // The gates, and the atoms that they are made of.
 ghost use Rattle.std.specs.Prelude.{◌≡◌, ℕ};
-ghost use Rattle.gates.specs.Gates.{gate_of, uses, controls_of, reads_of, awaits_of, choices_of, opens_of, gives_of};
+ghost use Rattle.gates.specs.Gates.{Describes, uses, controls_of, reads_of, awaits_of, choices_of, opens_of, gives_of};
 ghost use Rattle.model.specs.Sets.{has};
 ghost use Rattle.model.specs.States.{value};
 
@@ -27,22 +27,30 @@ pub enum Gate {
     },
 }
 
-impl Gate {
-    // The gate that a record of five bytes describes, if it is well formed: a known kind, names up to 31, and
-    // 255 in each field that the kind does not use.
-    pub fn read(kind: u8, a: u8, b: u8, out: u8, own: u8) -> Option<Gate>
-        ensures { result ≡ gate_of kind a b out own }
-    {
-        match kind {
-            0 if a < 32 && b == 255 && out < 32 && own == 255 => Some(Gate::Not { a, out }),
-            1 if a < 32 && b < 32 && out < 32 && own == 255 => Some(Gate::And { a, b, out }),
-            2 if a < 32 && b < 32 && out < 32 && own < 32 => Some(Gate::Latch {
-                set: a,
-                reset: b,
-                out,
-                own,
-            }),
-            _ => None,
+// Five bytes that describe no gate.
+#[derive(Clone, Copy, PartialEq, Eq, Debug)]
+pub struct Malformed;
+
+impl TryFrom<[u8; 5]> for Gate {
+    type Error = Malformed;
+
+    ghost try_from_gives = { Describes };
+
+    // The gate that a record describes, if it is well formed: a known kind, names up to 31, and 255 in each field that
+    // the kind does not use.
+    fn try_from(record: [u8; 5]) -> Result<Gate, Malformed> {
+        match record {
+            [0, a, 255, out, 255] if a < 32 && out < 32 => Ok(Gate::Not { a, out }),
+            [1, a, b, out, 255] if a < 32 && b < 32 && out < 32 => Ok(Gate::And { a, b, out }),
+            [2, set, reset, out, own] if set < 32 && reset < 32 && out < 32 && own < 32 => Ok(
+                Gate::Latch {
+                    set,
+                    reset,
+                    out,
+                    own,
+                },
+            ),
+            _ => Err(Malformed),
         }
     }
 }

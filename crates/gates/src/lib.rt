@@ -3,7 +3,6 @@
 
 mod gate;
 mod list;
-mod parts;
 
-pub use gate::{Field, Gate, Part};
+pub use gate::{Field, Gate, Malformed, Part};
 pub use list::GateList;

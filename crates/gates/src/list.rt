@@ -1,16 +1,17 @@
 // An opened gate list.
-ghost use Rattle.gates.specs.Rows.{listed};
-ghost use Rattle.std.specs.Prelude.{◌≡◌, ℕ, true, length, is_some};
+ghost use Rattle.gates.specs.Gates.{all_small};
+ghost use Rattle.gates.specs.Rows.{found_parts};
+ghost use Rattle.std.specs.Prelude.{◌≡◌, true};
 
-use crate::parts::Parts;
+use crate::gate::Part;
+use model::Row;
 
 pub mod drawn;
 mod opening;
 
-// The place of the fault, if there is one, and the atoms, of which there are none beside a fault.
+// The atoms, or the place of the fault.
 #[derive(Clone, Copy)]
 pub struct GateList {
-    wrong: Option<u16>,
-    parts: Parts,
-    ghost clean: { is_some wrong ≡ true → ◌≡◌ {A = ℕ} (length (listed parts)) 0 },
+    found: Result<Row<Part, 16>, u16>,
+    ghost small: { all_small (found_parts found) ≡ true },
 }

@@ -1,45 +1,17 @@
 // Questions that the tests ask of a list, each about every number that can be asked after.
 use drawing::{Drawing, Outline};
 use gates::GateList;
-use model::{Kind, Names, Round, State};
+use model::{Fault, Kind, Names, Round, State};
 use std::process::Abort;
 
-// Does opening these bytes find a fault at this place, or none? Every fault has number 18 and layer 0.
-fn is_fault_at(bytes: &[u8], place: Option<u16>) -> bool {
-    match (GateList::open(bytes).fault(), place) {
-        (None, None) => true,
-        (Some(fault), Some(place)) => fault.number == 18
-            && fault.layer == 0
-            && fault.place == place,
-        _ => false,
-    }
-}
-
+// Every fault of a gate list has number 18 and layer 0.
 pub fn check_fault(rt: &impl Abort, bytes: &[u8], place: Option<u16>) {
-    assert!(rt; is_fault_at(bytes, place), "{bytes:?} at {place:?}");
-}
-
-// The list with another record at this index.
-pub fn with_record<const N: usize>(list: [u8; N], index: u8, record: [u8; 5]) -> [u8; N] {
-    let mut changed = list;
-    let first = 5 * index as usize;
-    if first + 5 <= N {
-        changed[first] = record[0];
-        changed[first + 1] = record[1];
-        changed[first + 2] = record[2];
-        changed[first + 3] = record[3];
-        changed[first + 4] = record[4];
-    }
-    changed
-}
-
-// The list of these records.
-pub fn list_of<const N: usize>(records: &[[u8; 5]]) -> [u8; N] {
-    let mut list = [0; N];
-    for (index, record) in (0..=255u8).zip(records) {
-        list = with_record(list, index, *record);
-    }
-    list
+    let fault = place.map(|place| Fault {
+        number: 18,
+        layer: 0,
+        place,
+    });
+    assert_eq!(rt; GateList::open(bytes).fault(), fault, "{bytes:?}");
 }
 
 // The names of a drawing by their kinds.
@@ -52,22 +24,13 @@ pub struct Variables<'a> {
 
 // Are these the variables of the list, and each of top 1?
 fn has_just(list: &GateList, variables: Variables) -> bool {
-    for name in 0..=255u8 {
-        let (is_external, is_interface, is_private, top) = match list.kind(name) {
-            Some(Kind::External) => (true, false, false, 1),
-            Some(Kind::Interface) => (false, true, false, 1),
-            Some(Kind::Private) => (false, false, true, 1),
-            None => (false, false, false, 0),
-        };
-        if variables.external.contains(&name) != is_external
-            || variables.interface.contains(&name) != is_interface
-            || variables.private.contains(&name) != is_private
-            || list.top(name) != top
-        {
-            return false;
-        }
-    }
-    true
+    (0..=255u8).all(|name| {
+        let kind = list.kind(name);
+        variables.external.contains(&name) == (kind == Some(Kind::External))
+            && variables.interface.contains(&name) == (kind == Some(Kind::Interface))
+            && variables.private.contains(&name) == (kind == Some(Kind::Private))
+            && list.top(name) == u8::from(kind.is_some())
+    })
 }
 
 // The names that an atom controls, reads and awaits, and the number of its choices in an initialization and in an update.
@@ -76,12 +39,7 @@ pub struct Told<'a>(pub [&'a [u8]; 3], pub [u8; 2]);
 
 // Does the set have these names and no others?
 fn is_just(set: Names, names: &[u8]) -> bool {
-    for name in 0..=255u8 {
-        if set.has(name) != names.contains(&name) {
-            return false;
-        }
-    }
-    true
+    (0..=255u8).all(|name| set.has(name) == names.contains(&name))
 }
 
 fn tells(list: &GateList, atom: u8, told: Told) -> bool {
@@ -110,24 +68,20 @@ pub fn opens_just(
     new: State,
     open: &[u8],
 ) -> bool {
-    for choice in 0..=255u8 {
-        if list.is_open(round, atom, choice, old, new) != open.contains(&choice) {
-            return false;
-        }
-    }
-    true
+    (0..=255u8).all(|choice| {
+        list.is_open(round, atom, choice, old, new) == open.contains(&choice)
+    })
 }
+
+const ROUNDS: [Round; 2] = [Round::Initial, Round::Update];
 
 // The same in both rounds, whatever the old values.
 pub fn opens_always(list: &GateList, atom: u8, new: State, open: &[u8]) -> bool {
-    for old in [[0; 32], [1; 32], [2; 32]] {
-        if !opens_just(list, Round::Initial, atom, old, new, open)
-            || !opens_just(list, Round::Update, atom, old, new, open)
-        {
-            return false;
-        }
-    }
-    true
+    [[0; 32], [1; 32], [2; 32]].iter().all(|old| {
+        ROUNDS
+            .iter()
+            .all(|round| opens_just(list, *round, atom, *old, new, open))
+    })
 }
 
 // Do the atom's choices 0, 1 and 2 give these numbers to this name, and is everything else 0?
@@ -139,47 +93,32 @@ pub fn gives_just(
     old: State,
     given: [i16; 3],
 ) -> bool {
-    for choice in 0..=255u8 {
-        for other in 0..=255u8 {
-            let expected = match choice {
-                0 if other == name => given[0],
-                1 if other == name => given[1],
-                2 if other == name => given[2],
-                _ => 0,
-            };
-            if list.gives(round, atom, choice, other, old, [0; 32]) != expected
-                || list.gives(round, atom, choice, other, old, [1; 32]) != expected
-            {
-                return false;
-            }
-        }
-    }
-    true
+    (0..=255u8).all(|choice| {
+        let number = given.get(choice as usize).copied().unwrap_or(0);
+        (0..=255u8).all(|other| {
+            let expected = if other == name { number } else { 0 };
+            list.gives(round, atom, choice, other, old, [0; 32]) == expected
+                && list.gives(round, atom, choice, other, old, [1; 32]) == expected
+        })
+    })
 }
 
 // The same in both rounds, whatever the old values.
 pub fn gives_always(list: &GateList, atom: u8, name: u8, given: [i16; 3]) -> bool {
-    for old in [[0; 32], [1; 32]] {
-        if !gives_just(list, Round::Initial, atom, name, old, given)
-            || !gives_just(list, Round::Update, atom, name, old, given)
-        {
-            return false;
-        }
-    }
-    true
+    [[0; 32], [1; 32]].iter().all(|old| {
+        ROUNDS
+            .iter()
+            .all(|round| gives_just(list, *round, atom, name, *old, given))
+    })
 }
 
 // Are these the variables and the atoms of the list?
 pub fn has_outline(list: &GateList, variables: Variables, atoms: &[(u8, Told)]) -> bool {
-    for (atom, told) in atoms {
-        if !tells(list, *atom, *told) {
-            return false;
-        }
-    }
-    for absent in [list.atoms(), 16, 17, 200, 255] {
-        if !is_absent(list, absent) {
-            return false;
-        }
-    }
-    list.layers() == 1 && list.atoms() as usize == atoms.len() && has_just(list, variables)
+    list.layers() == 1
+        && list.atoms() as usize == atoms.len()
+        && has_just(list, variables)
+        && atoms.iter().all(|(atom, told)| tells(list, *atom, *told))
+        && [list.atoms(), 16, 17, 200, 255]
+            .iter()
+            .all(|absent| is_absent(list, *absent))
 }

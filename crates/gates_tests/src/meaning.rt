@@ -1,19 +1,19 @@
 // What opened lists tell.
 use crate::asking::{
-    Told, Variables, gives_always, gives_just, has_outline, list_of, opens_always, opens_just,
+    Told, Variables, gives_always, gives_just, has_outline, opens_always, opens_just,
 };
 use gates::GateList;
 use model::{Round, State};
 
 // 5 shows 0 OR 1: NOT 0 to 2, NOT 1 to 3, AND 2 and 3 to 4, NOT 4 to 5.
 fn or_list() -> GateList {
-    let bytes: [u8; 20] = list_of(&[
+    let records: [[u8; 5]; 4] = [
         [0, 0, 255, 2, 255],
         [0, 1, 255, 3, 255],
         [1, 2, 3, 4, 255],
         [0, 4, 255, 5, 255],
-    ]);
-    GateList::open(&bytes)
+    ];
+    GateList::open(records.as_flattened())
 }
 
 // A latch, set by 0 and reset by 1, that shows 2 and keeps 3; then NOT 2 to 31.
@@ -24,12 +24,7 @@ fn latch_list() -> GateList {
 // The state that gives names 0 to 5 these values, and 0 to the others.
 fn state(values: [u8; 6]) -> State {
     let mut all = [0; 32];
-    all[0] = values[0];
-    all[1] = values[1];
-    all[2] = values[2];
-    all[3] = values[3];
-    all[4] = values[4];
-    all[5] = values[5];
+    all[..6].copy_from_slice(&values);
     all
 }
 

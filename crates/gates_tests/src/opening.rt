@@ -1,54 +1,42 @@
 // What opening a list finds wrong, and where.
-use crate::asking::{check_fault, list_of, with_record};
+use crate::asking::check_fault;
 
 // NOT 0 to 10, AND 0 and 1 to 11, a latch from 0 and 1 to 12 that keeps 13, AND 11 and 12 to 14, NOT 2 to 15.
 // The records that replace one of these name only 3, 4, 20 and 21, where nothing else is said.
-fn five() -> [u8; 25] {
-    list_of(&[
-        [0, 0, 255, 10, 255],
-        [1, 0, 1, 11, 255],
-        [2, 0, 1, 12, 13],
-        [1, 11, 12, 14, 255],
-        [0, 2, 255, 15, 255],
-    ])
-}
+const FIVE: [[u8; 5]; 5] = [
+    [0, 0, 255, 10, 255],
+    [1, 0, 1, 11, 255],
+    [2, 0, 1, 12, 13],
+    [1, 11, 12, 14, 255],
+    [0, 2, 255, 15, 255],
+];
 
 // NOT 31 to 0, to 1 and so on.
-fn seventeen_nots() -> [u8; 85] {
-    list_of(&[
-        [0, 31, 255, 0, 255],
-        [0, 31, 255, 1, 255],
-        [0, 31, 255, 2, 255],
-        [0, 31, 255, 3, 255],
-        [0, 31, 255, 4, 255],
-        [0, 31, 255, 5, 255],
-        [0, 31, 255, 6, 255],
-        [0, 31, 255, 7, 255],
-        [0, 31, 255, 8, 255],
-        [0, 31, 255, 9, 255],
-        [0, 31, 255, 10, 255],
-        [0, 31, 255, 11, 255],
-        [0, 31, 255, 12, 255],
-        [0, 31, 255, 13, 255],
-        [0, 31, 255, 14, 255],
-        [0, 31, 255, 15, 255],
-        [0, 31, 255, 16, 255],
-    ])
+fn seventeen_nots() -> [[u8; 5]; 17] {
+    let mut nots = [[0, 31, 255, 0, 255]; 17];
+    for (out, record) in (0..17u8).zip(nots.iter_mut()) {
+        record[3] = out;
+    }
+    nots
 }
 
 // Latches from 30 and 31 to 0 that keeps 10, to 1 that keeps 11 and so on.
-fn nine_latches() -> [u8; 45] {
-    list_of(&[
-        [2, 30, 31, 0, 10],
-        [2, 30, 31, 1, 11],
-        [2, 30, 31, 2, 12],
-        [2, 30, 31, 3, 13],
-        [2, 30, 31, 4, 14],
-        [2, 30, 31, 5, 15],
-        [2, 30, 31, 6, 16],
-        [2, 30, 31, 7, 17],
-        [2, 30, 31, 8, 18],
-    ])
+fn nine_latches() -> [[u8; 5]; 9] {
+    let mut latches = [[2, 30, 31, 0, 10]; 9];
+    for ((out, own), record) in (0..9u8).zip(10..19u8).zip(latches.iter_mut()) {
+        record[3] = out;
+        record[4] = own;
+    }
+    latches
+}
+
+// The list with another record at this index.
+fn with_record<const N: usize>(list: [[u8; 5]; N], index: usize, record: [u8; 5]) -> [[u8; 5]; N] {
+    let mut changed = list;
+    if index < N {
+        changed[index] = record;
+    }
+    changed
 }
 
 #[test]
@@ -126,9 +114,9 @@ fn wrong_records(rt: HostRuntime) {
         [2, 3, 4, 20, 20],
     ];
     for record in wrong {
-        for index in 0..5u8 {
-            let bytes = with_record(five(), index, record);
-            check_fault(&rt, &bytes, Some(5 * u16::from(index)));
+        for index in 0..5 {
+            let list = with_record(FIVE, index, record);
+            check_fault(&rt, list.as_flattened(), Some(5 * index as u16));
         }
     }
 }
@@ -151,11 +139,11 @@ fn right_records(rt: HostRuntime) {
         [2, 20, 20, 20, 21],
         [0, 3, 255, 2, 255],
     ];
-    check_fault(&rt, &five(), None);
+    check_fault(&rt, FIVE.as_flattened(), None);
     for record in right {
-        for index in 0..5u8 {
-            let bytes = with_record(five(), index, record);
-            check_fault(&rt, &bytes, None);
+        for index in 0..5 {
+            let list = with_record(FIVE, index, record);
+            check_fault(&rt, list.as_flattened(), None);
         }
     }
 }
@@ -241,20 +229,20 @@ fn many_atoms(rt: HostRuntime) {
     let latches = nine_latches();
     let latch_at_14 = with_record(nots, 14, [2, 31, 31, 20, 21]);
     let latch_at_15 = with_record(nots, 15, [2, 31, 31, 20, 21]);
-    let cases: [(&[u8], Option<u16>); 9] = [
-        (&nots[0..75], None),
-        (&nots[0..80], None),
+    let cases: [(&[[u8; 5]], Option<u16>); 9] = [
+        (&nots[..15], None),
+        (&nots[..16], None),
         (&nots, Some(80)),
         // 14 gates and a latch, then with a gate more
-        (&latch_at_14[0..75], None),
-        (&latch_at_14[0..80], Some(75)),
+        (&latch_at_14[..15], None),
+        (&latch_at_14[..16], Some(75)),
         // 15 gates and a latch
-        (&latch_at_15[0..80], Some(75)),
+        (&latch_at_15[..16], Some(75)),
         (&latch_at_15, Some(75)),
-        (&latches[0..40], None),
+        (&latches[..8], None),
         (&latches, Some(40)),
     ];
-    for (bytes, place) in cases {
-        check_fault(&rt, bytes, place);
+    for (records, place) in cases {
+        check_fault(&rt, records.as_flattened(), place);
     }
 }

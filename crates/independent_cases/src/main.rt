@@ -2,7 +2,7 @@
 // and what it must print were made by tools/independent.py, which shares no code with the library.
 #![tactic(auto)]
 
-use commands::{FileBytes, Mistake};
+use commands::{FileBytes, Mistake, Vocabulary};
 use sessions::Session;
 use std::io;
 use std::io::{BufRead, BufReader};
@@ -26,7 +26,7 @@ fn numbers(answer: &str) -> &str {
 
 fn main(rt: HostRuntime) -> io::Result<()> {
     let heap = rt.alloc();
-    let mut session = Session::new(heap);
+    let mut session = Session::new(heap, Vocabulary::Everything);
     for line in BufReader::new(heap, rt.stdin())?.split(heap, b'\n') {
         match session.run(&NoFiles, line?.as_slice()) {
             Ok(Some(answer)) => println!(rt; "{}", numbers(answer.as_str()))?,

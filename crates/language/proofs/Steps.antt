@@ -1,11 +1,12 @@
 -- The definitions by recursion, one step at a time. Assumes nothing.
-use Rattle.std.proofs.Common.{◌≡◌, ℕ, zero, suc, ◌+◌, ◌<◌, ◌≤◌, Bool, true, false, cond, ◌⊎◌, List, [], ◌∷◌, length, get_or, Some, None, Option, refl, ap, ◌∙◌, subst, inl, inr, zero-le, not-suc-le-zero, add-zero, add-one, arith}
+use Rattle.model.specs.Tests.{count}
+use Rattle.std.proofs.Common.{◌≡◌, ℕ, zero, suc, ◌+◌, ◌<◌, ◌≤◌, Bool, true, false, cond, ◌⊎◌, List, [], ◌∷◌, length, get_or, Some, None, Option, refl, ap, ◌∙◌, subst, inl, inr, zero-le, not-suc-le-zero, add-one, arith}
 use Rattle.std.proofs.lemmas.Option.{slice_get-get_or, slice_get_past}
 use Rattle.std.proofs.lemmas.Bool.{cond-true, cond-false, cases_eq}
 use Rattle.std.proofs.lemmas.Bool.Decides.{nat_tests}
 use Rattle.std.specs.List.{slice_get}
 use Rattle.language.specs.Expressions.{Number, constant, old_value, new_value, sum, difference, equal, less, negation, conjunction, disjunction, always, Seen, as_byte, byte_at, Reading, good, bad, after, judged, good_byte, read_byte, one, two, number_operator, truth_operator, as_constant, as_name, number_operands, read_number, truth_operands, read_truth}
-use Rattle.language.specs.Tables.{rank, Step, fine, and_then, many, read_variable, read_variables}
+use Rattle.language.specs.Tables.{Step, fine, and_then, many, read_variable, read_variables}
 use Rattle.language.proofs.Bytes.{byte_of}
 
 -- ---- bytes
@@ -120,37 +121,25 @@ module _ (s : Seen) (bs : List ℕ) (k : ℕ) where
 -- ---- names in a set
 
 module _ (test : ℕ → Bool) where
-  pub rank_none : rank test 0 ≡ 0
-  unfolding rank
-  rank_none = refl
-
-  pub rank_in : (n : ℕ) → test n ≡ true → rank test (n + 1) ≡ rank test n + 1
-  unfolding rank
-  rank_in n h = rw (add-one n) (ap (λ i. rank test n + i) (cond-true (test n) 1 0 h))
-
-  pub rank_out : (n : ℕ) → test n ≡ false → rank test (n + 1) ≡ rank test n
-  unfolding rank
-  rank_out n h = rw add-one (ap (λ i. rank test n + i) (cond-false (test n) 1 0 h) ∙ add-zero (rank test n))
-
-  pub rank_few : (n : ℕ) → rank test n ≤ n
-  unfolding rank
+  pub rank_few : (n : ℕ) → count test n ≤ n
+  unfolding count
   rank_few zero = zero-le
   rank_few (suc n) = go (test n) (rank_few n)
     where
-      go : (b : Bool) → rank test n ≤ n → rank test n + cond b 1 0 ≤ suc n
+      go : (b : Bool) → count test n ≤ n → count test n + cond b 1 0 ≤ suc n
       go true h = omega arith
       go false h = omega arith
 
   -- each name of the set has a place below the set's size
-  pub rank_within : (n m : ℕ) → test n ≡ true → n < m → rank test n < rank test m
-  unfolding rank
+  pub rank_within : (n m : ℕ) → test n ≡ true → n < m → count test n < count test m
+  unfolding count
   rank_within n zero h l = absurd (not-suc-le-zero l)
   rank_within n (suc m) h l = go (cases_eq n m) (λ below. rank_within n m h below)
     where
-      go : (n ≡ m) ⊎ (n ≡ m → ⊥) → (n < m → rank test n < rank test m) → rank test n < rank test m + cond (test m) 1 0
+      go : (n ≡ m) ⊎ (n ≡ m → ⊥) → (n < m → count test n < count test m) → count test n < count test m + cond (test m) 1 0
       go (inl e) f =
           let last : cond {A = ℕ} (test m) 1 0 ≡ 1 = cond-true {A = ℕ} (test m) 1 0 (subst (λ i. test i ≡ true) e h) in
-          let same : rank test n ≡ rank test m = ap (rank test) e in omega arith
+          let same : count test n ≡ count test m = ap (count test) e in omega arith
       go (inr e) f = omega (arith, f (omega arith))
 
 -- ---- tables

@@ -1,12 +1,12 @@
 -- The sample table and its faults. Assumes nothing.
 use Rattle.std.proofs.Common.{refl}
-use Rattle.model.specs.Tests.{every, some}
+use Rattle.model.specs.Tests.{every, some, count}
 use Rattle.language.specs.Expressions.{read_number, read_truth}
 use Rattle.language.specs.Statements.{WorkedFaults, WorkedLevels}
-use Rattle.language.specs.Tables.{rank, many, read_variable, read_variables, read_choice, read_atom, read_table}
+use Rattle.language.specs.Tables.{many, read_variable, read_variables, read_choice, read_atom, read_table}
 
 pub worked_faults : WorkedFaults
-unfolding every some read_number read_truth rank many read_variable read_variables read_choice read_atom read_table
+unfolding every some read_number read_truth count many read_variable read_variables read_choice read_atom read_table
 worked_faults = record { whole = refl; lacks_one = refl; has_one_more = refl; sees_nothing_old = refl }
 
 pub worked_levels : WorkedLevels

@@ -8,7 +8,7 @@ use Rattle.std.proofs.lemmas.Bool.{and_parts, eqb-true, both_ways, false≢true,
 use Rattle.std.specs.List.{AllByRecursion, slice_get}
 use Rattle.model.proofs.Bounded.{every_decides, some_decides}
 use Rattle.model.specs.Meanings.{Valuation, Bytes, OutlineLaws, ChoiceLaws, Alike, Meaning}
-use Rattle.model.specs.Tests.{every, some, implies}
+use Rattle.model.specs.Tests.{every, some, implies, count}
 use Rattle.model.specs.declared.Fault.{Fault}
 use Rattle.model.specs.declared.Kind.TheVariants.{External}
 use Rattle.model.specs.declared.Round.{Round}
@@ -16,7 +16,7 @@ use Rattle.model.specs.declared.Round.TheVariants.{Initial, Update}
 use Rattle.language.specs.ExpressionLaws.{none_some, nth_inside, Agree, number_low, number_high, number_by_sight, truth_by_sight}
 use Rattle.language.specs.Expressions.{Number, number_levels, number_value, Seen, number_sees, truth_levels, truth_sees, Reading, good, bad, byte_at, whole_number, whole_truth}
 use Rattle.language.specs.TableReading.{table_read}
-use Rattle.language.specs.Tables.{TableVariable, TableChoice, TableAtom, TableSyntax, no_table, bit, rank, size, own_kind, variable_at, is_own, names_variables, names_own, seen_in, VariablesRight, NumberFits, ChoiceRight, ChoicesRight, AtomRight, TableRight, Step, fine, wrong, short, and_then, judgement, item, byte_item, if_passes, between, kind_of, word_at, set_item, part_at, expression_judged, expression_of, expression_body, expression_item, many, read_variable, read_variables, read_choice, read_atom, read_table, Opened, opened, refused, at_end, table_opened, fault_of, syntax_of, table_fault, table_of, variable_kind, variable_top, in_set, outline_of, choices_of, choice_opens, numbers_of, value_of, given, atom_gives, table_acts, table_outline}
+use Rattle.language.specs.Tables.{TableVariable, TableChoice, TableAtom, TableSyntax, no_table, bit, size, own_kind, variable_at, is_own, names_variables, names_own, seen_in, VariablesRight, NumberFits, ChoiceRight, ChoicesRight, AtomRight, TableRight, Step, fine, wrong, short, and_then, judgement, item, byte_item, if_passes, between, kind_of, word_at, set_item, part_at, expression_judged, expression_of, expression_body, expression_item, many, read_variable, read_variables, read_choice, read_atom, read_table, Opened, opened, refused, at_end, table_opened, fault_of, syntax_of, table_fault, table_of, variable_kind, variable_top, in_set, outline_of, choices_of, choice_opens, numbers_of, value_of, given, atom_gives, table_acts, table_outline}
 
 -- ---- faults are numbered 1 to 6
 
@@ -285,11 +285,11 @@ module _ (t : TableSyntax) (right : TableRight t) where
   gives_absent : (r : Round) (o : Option TableAtom) (k n : ℕ) (old new : Valuation) → length (choices_of r o) ≤ k → atom_gives r o k n old new ≡ pos 0
   gives_absent r None k n old new h = refl
   gives_absent r (Some x) k n old new h =
-      ap (λ c. given (bit x.controls n) (rank (bit x.controls) n) c old new) (slice_get_past (choices_of r (Some x)) k h) ∙ given_none (bit x.controls n) (rank (bit x.controls) n) old new
+      ap (λ c. given (bit x.controls n) (count (bit x.controls) n) c old new) (slice_get_past (choices_of r (Some x)) k h) ∙ given_none (bit x.controls n) (count (bit x.controls) n) old new
 
   gives_other : (r : Round) (o : Option TableAtom) (k n : ℕ) (old new : Valuation) → in_set (λ x. x.controls) o n ≡ false → atom_gives r o k n old new ≡ pos 0
   gives_other r None k n old new h = refl
-  gives_other r (Some x) k n old new h = ap (λ b. given b (rank (bit x.controls) n) (slice_get (choices_of r (Some x)) k) old new) h
+  gives_other r (Some x) k n old new h = ap (λ b. given b (count (bit x.controls) n) (slice_get (choices_of r (Some x)) k) old new) h
 
   -- whatever a choice gives is 0 or the value of a number that fits
   module _ (P : ℤ → Type 0) (old new : Valuation) (nought : P (pos 0)) where
@@ -308,7 +308,7 @@ module _ (t : TableSyntax) (right : TableRight t) where
     gives_by : ((s : Seen) (e : Number) → NumberFits s e → P (number_value e old new)) → (r : Round) (a : ℕ) (o : Option TableAtom) → slice_get t.atoms a ≡ o → (k n : ℕ) → P (atom_gives r o k n old new)
     gives_by each r a None e k n = nought
     gives_by each r a (Some x) e k n =
-        given_by (seen_in r x.reads x.awaits) (size x.controls) (each (seen_in r x.reads x.awaits)) (bit x.controls n) (rank (bit x.controls) n) (choices_of r (Some x)) k (choices_right r a x e).each
+        given_by (seen_in r x.reads x.awaits) (size x.controls) (each (seen_in r x.reads x.awaits)) (bit x.controls n) (count (bit x.controls) n) (choices_of r (Some x)) k (choices_right r a x e).each
 
   fits_seen : (s : Seen) (e : Number) → NumberFits s e → number_sees s e ≡ true
   fits_seen s e f = (and_parts (nat_le (number_levels e) 8) (number_sees s e) f.right).1
@@ -342,7 +342,7 @@ module _ (t : TableSyntax) (right : TableRight t) where
   gives_alike fault r a (Some x) e k n old new old' new' alike = by (bit x.controls n)
     where
       place : ℕ
-      place = rank (bit x.controls) n
+      place = count (bit x.controls) n
 
       s : Seen
       s = seen_in r x.reads x.awaits

@@ -2,7 +2,7 @@
 use Rattle.std.specs.Prelude.{◌≡◌, ℕ, zero, suc, ◌+◌, ◌*◌, ◌/◌, ◌%◌, ◌^◌, ◌<◌, ◌≤◌, Bool, true, false, cond, ◌&&◌, List, [], ◌∷◌, ◌++◌, length, take, drop, ℤ, pos, is_some, Some, None, Option, ◌==◌, nat_le, nat_lt}
 use Rattle.std.specs.List.{flat_map, AllByRecursion, slice_get}
 use Rattle.model.specs.Meanings.{Valuation, OutlineFacts, ChoiceFacts}
-use Rattle.model.specs.Tests.{every, some, implies}
+use Rattle.model.specs.Tests.{every, some, implies, count}
 use Rattle.model.specs.declared.Fault.{Fault}
 use Rattle.model.specs.declared.Kind.{Kind}
 use Rattle.model.specs.declared.Kind.TheVariants.{Private, Interface, External}
@@ -39,14 +39,9 @@ no_table = record { variables = []; atoms = [] }
 abbrev pub bit : ℕ → ℕ → Bool
 bit w n = w / 2 ^ n % 2 == 1
 
--- how many numbers below n pass the test
-unfoldable pub rank : (ℕ → Bool) → ℕ → ℕ
-rank test zero = 0
-rank test (suc n) = rank test n + cond (test n) 1 0
-
 -- how many names are in the set
 abbrev pub size : ℕ → ℕ
-size w = rank (bit w) 32
+size w = count (bit w) 32
 
 -- ---- the written form
 
@@ -352,7 +347,7 @@ given true place c old new = value_of (slice_get (numbers_of c) place) old new
 
 abbrev pub atom_gives : Round → Option TableAtom → ℕ → ℕ → Valuation → Valuation → ℤ
 atom_gives r None k n old new = pos 0
-atom_gives r (Some a) k n old new = given (bit a.controls n) (rank (bit a.controls) n) (slice_get (choices_of r (Some a)) k) old new
+atom_gives r (Some a) k n old new = given (bit a.controls n) (count (bit a.controls) n) (slice_get (choices_of r (Some a)) k) old new
 
 abbrev pub table_acts : TableSyntax → ChoiceFacts
 table_acts t =

@@ -1,83 +1,57 @@
-// Expressions and byte tables. The definitions are in specs/; each function here answers 0 and stands for a theorem on
+// Expressions and byte tables. The definitions are in specs/; each function here does nothing and stands for a theorem on
 // them, its contract, so that no check passes without the theorem's proof.
 #![tactic(auto)]
 
 ghost use Rattle.language.specs.Statements.{ExpressionsReadBack, ReadingsAreWritten, FormsArePrefixFree, WholeExpressionsAreWritten, ExpressionsAreReadFromTheFront, ValuesStayInRange, ComparisonsAreExact, ValuesGoBySight, RenamingExchangesNames, TablesReadBack, FaultsAreTheFirst, WorkedFaults, WorkedLevels};
 
-pub fn expressions_read_back() -> u8
+pub fn expressions_read_back()
     ensures { ExpressionsReadBack }
-{
-    0
-}
+{}
 
-pub fn readings_are_written() -> u8
+pub fn readings_are_written()
     ensures { ReadingsAreWritten }
-{
-    0
-}
+{}
 
-pub fn forms_are_prefix_free() -> u8
+pub fn forms_are_prefix_free()
     ensures { FormsArePrefixFree }
-{
-    0
-}
+{}
 
-pub fn whole_expressions_are_written() -> u8
+pub fn whole_expressions_are_written()
     ensures { WholeExpressionsAreWritten }
-{
-    0
-}
+{}
 
-pub fn expressions_are_read_from_the_front() -> u8
+pub fn expressions_are_read_from_the_front()
     ensures { ExpressionsAreReadFromTheFront }
-{
-    0
-}
+{}
 
-pub fn values_stay_in_range() -> u8
+pub fn values_stay_in_range()
     ensures { ValuesStayInRange }
-{
-    0
-}
+{}
 
-pub fn comparisons_are_exact() -> u8
+pub fn comparisons_are_exact()
     ensures { ComparisonsAreExact }
-{
-    0
-}
+{}
 
-pub fn values_go_by_sight() -> u8
+pub fn values_go_by_sight()
     ensures { ValuesGoBySight }
-{
-    0
-}
+{}
 
-pub fn renaming_exchanges_names() -> u8
+pub fn renaming_exchanges_names()
     ensures { RenamingExchangesNames }
-{
-    0
-}
+{}
 
-pub fn tables_read_back() -> u8
+pub fn tables_read_back()
     ensures { TablesReadBack }
-{
-    0
-}
+{}
 
-pub fn faults_are_the_first() -> u8
+pub fn faults_are_the_first()
     ensures { FaultsAreTheFirst }
-{
-    0
-}
+{}
 
-pub fn worked_faults() -> u8
+pub fn worked_faults()
     ensures { WorkedFaults }
-{
-    0
-}
+{}
 
-pub fn worked_levels() -> u8
+pub fn worked_levels()
     ensures { WorkedLevels }
-{
-    0
-}
+{}

@@ -1,125 +1,86 @@
--- Atoms that are read. Assumes nothing.
-use Rattle.std.proofs.Common.{◌≡◌, ℕ, ◌+◌, ◌<◌, ◌≢◌, ◌⊎◌, List, [], ◌∷◌, ◌++◌, length, get_or, set, Some, Err, sym, ap, ◌∙◌, subst, inl, inr, arith, get_or-set_other, get_or-set_same}
-use Rattle.std.specs.List.{slice_get}
-use Rattle.language.specs.ExpressionLaws.{none_some}
+-- An atom that is read, part by part. Assumes nothing.
+use Rattle.std.proofs.Common.{◌≡◌, ℕ, List, Ok, Err, Result, ◌∙◌, subst}
 use Rattle.language.specs.Expressions.{Seen}
-use Rattle.language.specs.Tables.{TableVariable, TableChoice, TableAtom, Step, fine, and_then, size, seen_in, names_own, names_variables, between, byte_item, set_item, many, read_choice, read_atom}
+use Rattle.language.specs.Tables.{TableVariable, size, seen_in, names_own, names_variables, between, byte_item, set_item, many, read_choice, read_atom}
+use Rattle.model.specs.declared.Fault.{Fault}
+use Rattle.model.specs.declared.Round.{Round}
 use Rattle.model.specs.declared.Round.TheVariants.{Initial, Update}
-use Rattle.layout.specs.Atoms.{AtomsLaid}
+use Rattle.model.specs.declared.names.Names.{Names}
+use Rattle.model.specs.declared.row.Row.{Row}
 use Rattle.layout.specs.Laid.{ChoicesLaid, AtomLaid}
-use Rattle.layout.specs.Told.{end_told, Fine}
-use Rattle.layout.specs.declared.bytes.Stop.{Stop}
+use Rattle.layout.specs.Reads.{Tells, Reads}
+use Rattle.layout.specs.Sets.{NamesOf}
 use Rattle.layout.specs.declared.parts.AtomLayout.{AtomLayout}
-use Rattle.layout.specs.declared.parts.ChoiceLayout.{ChoiceLayout}
-use Rattle.layout.proofs.Answered.{then_stops, then_goes}
-use Rattle.layout.proofs.Rows.{SoFar, so_far_none, so_far_stops, so_far_more, so_far_all, nth_more}
+use Rattle.layout.specs.declared.reader.Reader.{Reader}
+use Rattle.layout.proofs.Answered.{then_stop, then_go, then_done, tell_stop, tell_go}
 
--- ---- one atom, part by part
+-- choices by what they see and how many names they give to, of the bytes that another reader has too
+pub choices_by : (first : Reader) {old new : Reader} {result : Result (Row ℕ 8) Fault} (s t : Seen) (n m all : ℕ) → old.bytes ≡ first.bytes → s ≡ t → n ≡ m → Reads (ChoicesLaid old.bytes.now s n) (many (read_choice s n) all) old new result → Reads (ChoicesLaid first.bytes.now t m) (many (read_choice t m) all) old new result
+choices_by first {old} {new} {result} s t n m all b e h r =
+    subst (λ i. Reads (ChoicesLaid first.bytes.now t i) (many (read_choice t i) all) old new result) h
+    (subst (λ u. Reads (ChoicesLaid first.bytes.now u n) (many (read_choice u n) all) old new result) e
+    (subst (λ a. Reads (ChoicesLaid a.now s n) (many (read_choice s n) all) old new result) b r))
 
--- choices by what they see and how many names they give to
-module _ (bs : List ℕ) (s t : Seen) (n m count k : ℕ) (e : s ≡ t) (h : n ≡ m) where
-  pub choices_fine_by : (got : ChoiceLayout × ℕ) → Fine (ChoicesLaid bs s n) (many (read_choice s n) count bs k) got → Fine (ChoicesLaid bs t m) (many (read_choice t m) count bs k) got
-  choices_fine_by got f = subst (λ i. Fine (ChoicesLaid bs t i) (many (read_choice t i) count bs k) got) h (subst (λ u. Fine (ChoicesLaid bs u n) (many (read_choice u n) count bs k) got) e f)
+module _ (vs : List TableVariable) (r0 : Reader) where
+  -- what reading the atom gives
+  abbrev Gives : Reader → Result AtomLayout Fault → Type 0
+  Gives = Reads (AtomLaid r0.bytes.now) (read_atom vs) r0
 
-  pub choices_stop_by : (stop : Stop) → end_told (many (read_choice s n) count bs k) ≡ Err stop → end_told (many (read_choice t m) count bs k) ≡ Err stop
-  choices_stop_by stop f = subst (λ i. end_told (many (read_choice t i) count bs k) ≡ Err stop) h (subst (λ u. end_told (many (read_choice u n) count bs k) ≡ Err stop) e f)
-
-module _ (vs : List TableVariable) (bs : List ℕ) (k : ℕ) where
-  pub controls_stop : (stop : Stop) → end_told (set_item (names_own vs) bs k) ≡ Err stop → end_told (read_atom vs bs k) ≡ Err stop
+  pub controls_stop : {r : Reader} {fault : Fault} → Reads NamesOf (set_item (names_own vs)) r0 r (Err fault) → Gives r (Err fault)
   unfolding read_atom
-  controls_stop stop e = then_stops (set_item (names_own vs) bs k) _ stop e
+  controls_stop s = then_stop _ s
 
-  module _ (controls k₁ : ℕ) (e₁ : set_item (names_own vs) bs k ≡ fine controls k₁) where
-    pub reads_stop : (stop : Stop) → end_told (set_item (names_variables vs) bs k₁) ≡ Err stop → end_told (read_atom vs bs k) ≡ Err stop
+  module _ {r1 : Reader} {controls : Names} (c : Reads NamesOf (set_item (names_own vs)) r0 r1 (Ok controls)) where
+    pub reads_stop : {r : Reader} {fault : Fault} → Reads NamesOf (set_item (names_variables vs)) r1 r (Err fault) → Gives r (Err fault)
     unfolding read_atom
-    reads_stop stop e = ap end_told (then_goes (set_item (names_own vs) bs k) _ controls k₁ e₁) ∙ then_stops (set_item (names_variables vs) bs k₁) _ stop e
+    reads_stop s = then_go _ c (then_stop _ s)
 
-    module _ (reads k₂ : ℕ) (e₂ : set_item (names_variables vs) bs k₁ ≡ fine reads k₂) where
-      pub awaits_stop : (stop : Stop) → end_told (set_item (names_variables vs) bs k₂) ≡ Err stop → end_told (read_atom vs bs k) ≡ Err stop
+    module _ {r2 : Reader} {reads : Names} (d : Reads NamesOf (set_item (names_variables vs)) r1 r2 (Ok reads)) where
+      pub awaits_stop : {r : Reader} {fault : Fault} → Reads NamesOf (set_item (names_variables vs)) r2 r (Err fault) → Gives r (Err fault)
       unfolding read_atom
-      awaits_stop stop e =
-          ap end_told (then_goes (set_item (names_own vs) bs k) _ controls k₁ e₁ ∙ then_goes (set_item (names_variables vs) bs k₁) _ reads k₂ e₂)
-          ∙ then_stops (set_item (names_variables vs) bs k₂) _ stop e
+      awaits_stop s = then_go _ c (then_go _ d (then_stop _ s))
 
-      module _ (awaits k₃ : ℕ) (e₃ : set_item (names_variables vs) bs k₂ ≡ fine awaits k₃) where
-        -- what follows the sets
-        abbrev after_sets : Step TableAtom
-        after_sets =
-            and_then (byte_item 4 (between 1 8) bs k₃) (λ initials k.
-            and_then (byte_item 4 (between 1 8) bs k) (λ updates k.
-            and_then (many (read_choice (seen_in Initial reads awaits) (size controls)) initials bs k) (λ initial k.
-            and_then (many (read_choice (seen_in Update reads awaits) (size controls)) updates bs k) (λ update end.
-            fine (record { controls = controls; reads = reads; awaits = awaits; initial = initial; update = update }) end))))
-
-        sets_read : read_atom vs bs k ≡ after_sets
+      module _ {r3 : Reader} {awaits : Names} (e : Reads NamesOf (set_item (names_variables vs)) r2 r3 (Ok awaits)) where
+        pub initials_stop : {r : Reader} {fault : Fault} → Tells (byte_item 4 (between 1 8)) r3 r (Err fault) → Gives r (Err fault)
         unfolding read_atom
-        sets_read =
-            then_goes (set_item (names_own vs) bs k) _ controls k₁ e₁ ∙ then_goes (set_item (names_variables vs) bs k₁) _ reads k₂ e₂
-            ∙ then_goes (set_item (names_variables vs) bs k₂) _ awaits k₃ e₃
+        initials_stop s = then_go _ c (then_go _ d (then_go _ e (tell_stop _ s)))
 
-        pub initials_stop : (stop : Stop) → end_told (byte_item 4 (between 1 8) bs k₃) ≡ Err stop → end_told (read_atom vs bs k) ≡ Err stop
-        initials_stop stop e = ap end_told sets_read ∙ then_stops (byte_item 4 (between 1 8) bs k₃) _ stop e
+        module _ {r4 : Reader} {initials : ℕ} (f : Tells (byte_item 4 (between 1 8)) r3 r4 (Ok initials)) where
+          pub updates_stop : {r : Reader} {fault : Fault} → Tells (byte_item 4 (between 1 8)) r4 r (Err fault) → Gives r (Err fault)
+          unfolding read_atom
+          updates_stop s = then_go _ c (then_go _ d (then_go _ e (tell_go _ f (tell_stop _ s))))
 
-        module _ (initials k₄ : ℕ) (e₄ : byte_item 4 (between 1 8) bs k₃ ≡ fine initials k₄) where
-          pub updates_stop : (stop : Stop) → end_told (byte_item 4 (between 1 8) bs k₄) ≡ Err stop → end_told (read_atom vs bs k) ≡ Err stop
-          updates_stop stop e = ap end_told (sets_read ∙ then_goes (byte_item 4 (between 1 8) bs k₃) _ initials k₄ e₄) ∙ then_stops (byte_item 4 (between 1 8) bs k₄) _ stop e
+          module _ {r5 : Reader} {updates : ℕ} (g : Tells (byte_item 4 (between 1 8)) r4 r5 (Ok updates)) where
+            abbrev sees : Round → Seen
+            sees round = seen_in round d.told.part e.told.part
 
-          module _ (updates k₅ : ℕ) (e₅ : byte_item 4 (between 1 8) bs k₄ ≡ fine updates k₅) where
-            pub initial_stop : (stop : Stop) → end_told (many (read_choice (seen_in Initial reads awaits) (size controls)) initials bs k₅) ≡ Err stop → end_told (read_atom vs bs k) ≡ Err stop
-            initial_stop stop e =
-                ap end_told (sets_read ∙ then_goes (byte_item 4 (between 1 8) bs k₃) _ initials k₄ e₄ ∙ then_goes (byte_item 4 (between 1 8) bs k₄) _ updates k₅ e₅)
-                ∙ then_stops (many (read_choice (seen_in Initial reads awaits) (size controls)) initials bs k₅) _ stop e
+            abbrev Choices : Round → ℕ → Reader → Reader → Result (Row ℕ 8) Fault → Type 0
+            Choices round = λ n. Reads (ChoicesLaid r0.bytes.now (sees round) (size c.told.part)) (many (read_choice (sees round) (size c.told.part)) n)
 
-            module _ (initial : List TableChoice) (k₆ : ℕ) (e₆ : many (read_choice (seen_in Initial reads awaits) (size controls)) initials bs k₅ ≡ fine initial k₆) where
-              pub update_stop : (stop : Stop) → end_told (many (read_choice (seen_in Update reads awaits) (size controls)) updates bs k₆) ≡ Err stop → end_told (read_atom vs bs k) ≡ Err stop
-              update_stop stop e =
-                  ap end_told
-                  (sets_read ∙ then_goes (byte_item 4 (between 1 8) bs k₃) _ initials k₄ e₄ ∙ then_goes (byte_item 4 (between 1 8) bs k₄) _ updates k₅ e₅
-                  ∙ then_goes (many (read_choice (seen_in Initial reads awaits) (size controls)) initials bs k₅) _ initial k₆ e₆)
-                  ∙ then_stops (many (read_choice (seen_in Update reads awaits) (size controls)) updates bs k₆) _ stop e
+            same5 : r5.bytes ≡ r0.bytes
+            same5 = g.same ∙ f.same ∙ e.same ∙ d.same ∙ c.same
 
-              pub atom_goes : (update : List TableChoice) (end : ℕ) → many (read_choice (seen_in Update reads awaits) (size controls)) updates bs k₆ ≡ fine update end → read_atom vs bs k ≡ fine (record { controls = controls; reads = reads; awaits = awaits; initial = initial; update = update }) end
-              atom_goes update end e =
-                  sets_read ∙ then_goes (byte_item 4 (between 1 8) bs k₃) _ initials k₄ e₄ ∙ then_goes (byte_item 4 (between 1 8) bs k₄) _ updates k₅ e₅
-                  ∙ then_goes (many (read_choice (seen_in Initial reads awaits) (size controls)) initials bs k₅) _ initial k₆ e₆
-                  ∙ then_goes (many (read_choice (seen_in Update reads awaits) (size controls)) updates bs k₆) _ update end e
+            -- what the choices are read by
+            module _ {first : Seen} {given : ℕ} (is_first : first ≡ sees Initial) (is_given : given ≡ size c.told.part) where
+              pub initial_stop : {r : Reader} {fault : Fault} → Reads (ChoicesLaid r5.bytes.now first given) (many (read_choice first given) initials) r5 r (Err fault) → Gives r (Err fault)
+              unfolding read_atom
+              initial_stop s =
+                  then_go _ c (then_go _ d (then_go _ e (tell_go _ f (tell_go _ g (then_stop _ (choices_by r0 first (sees Initial) given (size c.told.part) initials same5 is_first is_given s))))))
 
--- ---- so many atoms
+              module _ {r6 : Reader} {initial : Row ℕ 8} (i : Reads (ChoicesLaid r5.bytes.now first given) (many (read_choice first given) initials) r5 r6 (Ok initial)) {later : Seen} (is_later : later ≡ sees Update) where
+                h : Choices Initial initials r5 r6 (Ok initial)
+                h = choices_by r0 first (sees Initial) given (size c.told.part) initials same5 is_first is_given i
 
-module _ (bs : List ℕ) (vs : List TableVariable) where
-  pub record AtomsSoFar (count start i k : ℕ) (rows : List AtomLayout) : Type 0 where
-    pub made : List TableAtom
-    pub so_far : SoFar (read_atom vs) bs count start i k made
-    pub each : (j : ℕ) (a : TableAtom) (other : AtomLayout) → slice_get made j ≡ Some a → AtomLaid bs a (get_or rows j other)
+                later_by : {r : Reader} {result : Result (Row ℕ 8) Fault} → Reads (ChoicesLaid r6.bytes.now later given) (many (read_choice later given) updates) r6 r result → Choices Update updates r6 r result
+                later_by s = choices_by r0 later (sees Update) given (size c.told.part) updates (i.same ∙ same5) is_later is_given s
 
-  pub atoms_none : (count start : ℕ) (rows : List AtomLayout) → AtomsSoFar count start 0 start rows
-  atoms_none count start rows = record { made = []; so_far = so_far_none (read_atom vs) bs count start; each = λ j a other h. none_some a h }
+                pub update_stop : {r : Reader} {fault : Fault} → Reads (ChoicesLaid r6.bytes.now later given) (many (read_choice later given) updates) r6 r (Err fault) → Gives r (Err fault)
+                unfolding read_atom
+                update_stop s = then_go _ c (then_go _ d (then_go _ e (tell_go _ f (tell_go _ g (then_go _ h (then_stop _ (later_by s)))))))
 
-  module _ (count start i k : ℕ) (rows : List AtomLayout) (f : AtomsSoFar count start i k rows) where
-    pub atoms_stop : (stop : Stop) → i < count → end_told (read_atom vs bs k) ≡ Err stop → end_told (many (read_atom vs) count bs start) ≡ Err stop
-    atoms_stop stop l e = so_far_stops (read_atom vs) bs count start i k f.made f.so_far stop l e
-
-    pub atoms_more : (l : AtomLayout) (next : ℕ) → i < count → i < length rows → Fine {R = AtomLayout} (AtomLaid bs) (read_atom vs bs k) (l, next) → AtomsSoFar count start (i + 1) next (set rows i l)
-    atoms_more l next below inside r =
-        record {
-          made = f.made ++ (r.part ∷ []);
-          so_far = so_far_more (read_atom vs) bs count start i k f.made f.so_far r.part next below r.read;
-          each = λ j a other h. go j a other (nth_more f.made r.part a j h);
-        }
-      where
-        go : (j : ℕ) (a : TableAtom) (other : AtomLayout) → ((slice_get f.made j ≡ Some a) × (j < length f.made)) ⊎ ((j ≡ length f.made) × (r.part ≡ a)) → AtomLaid bs a (get_or (set rows i l) j other)
-        go j a other (inl h) =
-            let ne : j ≢ i = omega (arith, f.so_far.counted, h.1) in
-            subst (AtomLaid bs a) (sym (get_or-set_other rows i j l other ne)) (f.each j a other h.0)
-        go j a other (inr h) =
-            let same : i ≡ j = omega (arith, f.so_far.counted, h.0) in
-            let here : get_or (set rows i l) j other ≡ l = ap (λ n. get_or (set rows i l) n other) (sym same) ∙ get_or-set_same rows i l other inside in
-            subst (AtomLaid bs a) (sym here) (subst (λ x. AtomLaid bs x l) h.1 r.made)
-
-    pub atoms_all : i ≡ count → length rows ≡ 16 → Fine {R = List AtomLayout} (AtomsLaid bs count) (many (read_atom vs) count bs start) (rows, k)
-    atoms_all e full =
-        record {
-          part = f.made;
-          read = so_far_all (read_atom vs) bs count start i k f.made f.so_far e;
-          made = record { counted = sym (f.so_far.counted ∙ e); atom_rows = full; atoms = f.each };
-        }
+                pub atom_goes : {r7 : Reader} {update : Row ℕ 8} → Reads (ChoicesLaid r6.bytes.now later given) (many (read_choice later given) updates) r6 r7 (Ok update) → Gives r7 (Ok (record { controls = controls; reads = reads; awaits = awaits; initial = initial; update = update }))
+                unfolding read_atom
+                atom_goes s =
+                    let t = later_by s in
+                    then_go _ c (then_go _ d (then_go _ e (tell_go _ f (tell_go _ g (then_go _ h (then_go _ t
+                    (then_done (record { controls = c.told.made; reads = d.told.made; awaits = e.told.made; initial = h.told.made; update = t.told.made }))))))))

@@ -1,8 +1,7 @@
 pub mod Answered
-pub mod AtomRows
-pub mod ChoiceRows
 pub mod Rows
 pub mod VariableRows
-pub mod Whole
+pub mod AtomRows
+pub mod Judged
+pub mod SetItems
 pub mod Words
-pub mod WordItems

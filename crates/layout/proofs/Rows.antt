@@ -1,12 +1,15 @@
 -- Parts that are read one after the other. Assumes nothing.
-use Rattle.std.proofs.Common.{◌≡◌, ℕ, zero, suc, ◌+◌, ◌-◌, ◌<◌, ◌⊎◌, List, [], ◌∷◌, ◌++◌, length, Some, Ok, Err, sym, refl, ap, ◌∙◌, inl, inr, append_assoc, append-nil, arith, length-append}
+use Rattle.std.proofs.Common.{◌≡◌, ℕ, zero, suc, ◌+◌, ◌-◌, ◌<◌, List, [], ◌∷◌, ◌++◌, length, Ok, Err, Result, subst, sym, refl, ap, ◌∙◌, append_assoc, append-nil, arith, length-append}
 use Rattle.std.specs.List.{slice_get}
-use Rattle.language.proofs.Steps.{many_none, many_more}
-use Rattle.language.specs.ExpressionLaws.{none_some}
+use Rattle.language.proofs.Steps.{many_none as no_more, many_more as one_more}
 use Rattle.language.specs.Tables.{Step, fine, wrong, short, and_then, many}
-use Rattle.layout.specs.Told.{end_told}
-use Rattle.layout.specs.declared.bytes.Stop.{Stop}
-use Rattle.layout.proofs.Answered.{told_ends, then_stops, then_ends}
+use Rattle.model.specs.Rows.{Pushed}
+use Rattle.model.specs.declared.Fault.{Fault}
+use Rattle.model.specs.declared.row.Full.{Full}
+use Rattle.layout.specs.Reads.{end_told, Passes, Reads}
+use Rattle.layout.specs.Rows.{Each, Paired}
+use Rattle.layout.specs.declared.reader.Reader.{Reader}
+use Rattle.layout.proofs.Answered.{passes_from, reads_from, told_ends, then_stops}
 
 -- what is read is put behind what was read before
 abbrev pub behind : {X : Type 0} → List X → Step (List X) → Step (List X)
@@ -27,54 +30,100 @@ behind_all made k = ap (λ l. fine l k) (append-nil made)
 
 module _ {X : Type 0} (read : List ℕ → ℕ → Step X) (bs : List ℕ) where
   more_left : (n m k : ℕ) → n ≡ m + 1 → many read n bs k ≡ and_then (read bs k) (λ x next. and_then (many read m bs next) (λ xs end. fine (x ∷ xs) end))
-  more_left n m k e = ap (λ i. many read i bs k) e ∙ many_more read m bs k
+  more_left n m k e = ap (λ i. many read i bs k) e ∙ one_more read m bs k
 
-  -- ---- only where they end
+  many_stops : (all n m k : ℕ) (fault : Fault) → n ≡ m + 1 → end_told all (read bs k) ≡ Err fault → end_told all (many read n bs k) ≡ Err fault
+  many_stops all n m k fault e h = ap (end_told all) (more_left n m k e) ∙ then_stops all (read bs k) _ fault h
 
-  pub many_stops : (n m k : ℕ) (stop : Stop) → n ≡ m + 1 → Err stop ≡ end_told (read bs k) → end_told (many read n bs k) ≡ Err stop
-  many_stops n m k stop e h = ap end_told (more_left n m k e) ∙ then_stops (read bs k) _ stop (sym h)
+-- So many of the parts have been read, up to where the reader stands now, and this holds of them.
+pub record SoFar {X : Type 0} (read : List ℕ → ℕ → Step X) (first : Reader) (count i : ℕ) (now : Reader) (Q : List X → Type 0) : Type 0 where
+  pub same : now.bytes ≡ first.bytes
+  pub made : List X
+  pub counted : length made ≡ i
+  pub ahead : many read count first.bytes.now first.place ≡ behind made (many read (count - i) first.bytes.now now.place)
+  pub holds : Q made
 
-  pub many_ends : (n m k next : ℕ) → n ≡ m + 1 → Ok next ≡ end_told (read bs k) → end_told (many read n bs k) ≡ end_told (many read m bs next)
-  many_ends n m k next e h =
-      let r = told_ends (read bs k) next h in
-      ap end_told (more_left n m k e) ∙ ap (λ s. end_told (and_then s (λ x next. and_then (many read m bs next) (λ xs end. fine (x ∷ xs) end)))) r.read ∙ then_ends (many read m bs next) (λ xs. r.part ∷ xs)
+pub many_none : {X : Type 0} {read : List ℕ → ℕ → Step X} {Q : List X → Type 0} (first : Reader) (count : ℕ) → Q [] → SoFar read first count 0 first Q
+many_none {read} first count q =
+    let all = many read count first.bytes.now first.place in
+    let none : count ≡ count - 0 = omega arith in
+    record { same = refl; made = []; counted = refl; ahead = behind_none all ∙ ap (λ n. behind [] (many read n first.bytes.now first.place)) none; holds = q }
 
-  -- ---- what they are
+module _ {X : Type 0} {read : List ℕ → ℕ → Step X} {first : Reader} {count i : ℕ} {now : Reader} {Q : List X → Type 0} (f : SoFar read first count i now Q) where
+  pub many_stop : {next : Reader} {fault : Fault} → i < count → Passes read now next (Err fault) → Passes (many read count) first next (Err fault)
+  many_stop {next} {fault} l r =
+      let bs = first.bytes.now in let all = length bs in
+      let here : end_told all (many read (count - i) bs now.place) ≡ Err fault = many_stops read bs all (count - i) (count - (i + 1)) now.place fault (omega arith) (sym (passes_from first f.same r)) in
+      record { same = r.same ∙ f.same; told = sym (ap (end_told all) f.ahead ∙ then_stops all (many read (count - i) bs now.place) _ fault here) }
 
-  -- so many of the parts have been read
-  pub record SoFar (count start i k : ℕ) (made : List X) : Type 0 where
-    pub counted : length made ≡ i
-    pub ahead : many read count bs start ≡ behind made (many read (count - i) bs k)
+  pub many_more : {next : Reader} (Q' : List X → Type 0) (x : X) → i < count → next.bytes ≡ now.bytes → read first.bytes.now now.place ≡ fine x next.place → (Q f.made → Q' (f.made ++ x ∷ [])) → SoFar read first count (i + 1) next Q'
+  many_more {next} Q' x l same e step =
+      let bs = first.bytes.now in
+      record {
+        same = same ∙ f.same;
+        made = f.made ++ (x ∷ []);
+        counted = length-append f.made (x ∷ []) ∙ ap (λ n. n + 1) f.counted;
+        ahead =
+            f.ahead ∙ ap (behind f.made) (more_left read bs (count - i) (count - (i + 1)) now.place (omega arith) ∙ ap (λ s. and_then s (λ x next. and_then (many read (count - (i + 1)) bs next) (λ xs end. fine (x ∷ xs) end))) e)
+            ∙ behind_more f.made x (many read (count - (i + 1)) bs next.place);
+        holds = step f.holds;
+      }
 
-  pub so_far_none : (count start : ℕ) → SoFar count start 0 start []
-  so_far_none count start =
-      let same : count ≡ count - 0 = omega arith in
-      record { counted = refl; ahead = behind_none (many read count bs start) ∙ ap (λ n. behind [] (many read n bs start)) same }
+  pub many_all : i ≡ count → many read count first.bytes.now first.place ≡ fine f.made now.place
+  many_all e =
+      let bs = first.bytes.now in
+      let none : count - i ≡ 0 = omega arith in
+      f.ahead ∙ ap (λ n. behind f.made (many read n bs now.place)) none ∙ ap (behind f.made) (no_more read bs now.place) ∙ behind_all f.made now.place
 
-  module _ (count start i k : ℕ) (made : List X) (f : SoFar count start i k made) where
-    pub so_far_stops : (stop : Stop) → i < count → end_told (read bs k) ≡ Err stop → end_told (many read count bs start) ≡ Err stop
-    so_far_stops stop l h =
-        ap end_told f.ahead ∙ then_stops (many read (count - i) bs k) _ stop (many_stops (count - i) (count - (i + 1)) k stop (omega arith) (sym h))
+-- ---- where they end
 
-    pub so_far_more : (x : X) (next : ℕ) → i < count → read bs k ≡ fine x next → SoFar count start (i + 1) next (made ++ (x ∷ []))
-    so_far_more x next l h =
-        record {
-          counted = length-append made (x ∷ []) ∙ ap (λ n. n + 1) f.counted;
-          ahead =
-              f.ahead ∙ ap (behind made) (more_left (count - i) (count - (i + 1)) k (omega arith) ∙ ap (λ s. and_then s (λ x next. and_then (many read (count - (i + 1)) bs next) (λ xs end. fine (x ∷ xs) end))) h)
-              ∙ behind_more made x (many read (count - (i + 1)) bs next);
-        }
+module _ {X : Type 0} {read : List ℕ → ℕ → Step X} {first : Reader} {count i : ℕ} {now : Reader} {Q : List X → Type 0} (f : SoFar read first count i now Q) where
+  pub passes_more : {next : Reader} (Q' : List X → Type 0) → i < count → Passes read now next (Ok tt) → ((x : X) → read first.bytes.now now.place ≡ fine x next.place → Q f.made → Q' (f.made ++ x ∷ [])) → SoFar read first count (i + 1) next Q'
+  passes_more {next} Q' l p step =
+      let r = told_ends (length first.bytes.now) (read first.bytes.now now.place) next.place (passes_from first f.same p) in
+      many_more f Q' r.part l p.same r.read (step r.part r.read)
 
-    pub so_far_all : i ≡ count → many read count bs start ≡ fine made k
-    so_far_all e = let none : count - i ≡ 0 = omega arith in f.ahead ∙ ap (λ n. behind made (many read n bs k)) none ∙ ap (behind made) (many_none read bs k) ∙ behind_all made k
+  pub passes_all : i ≡ count → Passes (many read count) first now (Ok tt)
+  passes_all e = record { same = f.same; told = sym (ap (end_told (length first.bytes.now)) (many_all f e)) }
 
--- an element of a list with one more is an earlier one or the last
-pub nth_more : {X : Type 0} (made : List X) (x c : X) (k : ℕ) → slice_get (made ++ (x ∷ [])) k ≡ Some c → ((slice_get made k ≡ Some c) × (k < length made)) ⊎ ((k ≡ length made) × (x ≡ c))
-nth_more [] x c zero e = let same : x ≡ c = cc in inr (refl, same)
-nth_more [] x c (suc k) e = none_some c e
-nth_more (y ∷ made) x c zero e = inl (e, omega arith)
-nth_more (y ∷ made) x c (suc k) e = go (nth_more made x c k e)
+-- ---- what is made of them
+
+pub reads_more : {X R : Type 0} {P : X → R → Type 0} {read : List ℕ → ℕ → Step X} {first : Reader} {count i : ℕ} {now next : Reader} {Q : List X → Type 0} {r : R} (f : SoFar read first count i now Q) (Q' : List X → Type 0) → i < count → Reads P read now next (Ok r) → ((x : X) → P x r → Q f.made → Q' (f.made ++ x ∷ [])) → SoFar read first count (i + 1) next Q'
+reads_more {first} f Q' l p step = let got = reads_from first f.same p in many_more f Q' got.part l p.same got.read (step got.part got.made)
+
+pub each_none : {X R : Type 0} {P : X → R → Type 0} → Each P [] []
+each_none = record { counted = refl; each = λ k. tt }
+
+pub each_more : {X R : Type 0} {P : X → R → Type 0} (xs : List X) (rs : List R) (x : X) (r : R) → Each P xs rs → P x r → Each P (xs ++ x ∷ []) (rs ++ r ∷ [])
+each_more {P} [] [] x r f p = record { counted = refl; each = go }
   where
-    go : ((slice_get made k ≡ Some c) × (k < length made)) ⊎ ((k ≡ length made) × (x ≡ c)) → ((slice_get made k ≡ Some c) × (suc k < suc (length made))) ⊎ ((suc k ≡ suc (length made)) × (x ≡ c))
-    go (inl h) = inl (h.0, omega (arith, h.1))
-    go (inr h) = inr (ap suc h.0, h.1)
+    go : (k : ℕ) → Paired P (slice_get (x ∷ []) k) (slice_get (r ∷ []) k)
+    go zero = p
+    go (suc k) = tt
+each_more [] (s ∷ rs) x r f p = absurd (omega (arith, f.counted))
+each_more (y ∷ xs) [] x r f p = absurd (omega (arith, f.counted))
+each_more {X} {R} {P} (y ∷ xs) (s ∷ rs) x r f p = go (each_more xs rs x r (record { counted = omega (arith, f.counted); each = λ k. f.each (suc k) }) p)
+  where
+    go : Each P (xs ++ x ∷ []) (rs ++ r ∷ []) → Each P (y ∷ (xs ++ x ∷ [])) (s ∷ (rs ++ r ∷ []))
+    go rest = record { counted = ap suc rest.counted; each = at rest }
+      where
+        at : Each P (xs ++ x ∷ []) (rs ++ r ∷ []) → (k : ℕ) → Paired P (slice_get (y ∷ (xs ++ x ∷ [])) k) (slice_get (s ∷ (rs ++ r ∷ [])) k)
+        at rest zero = f.each 0
+        at rest (suc k) = rest.each k
+
+pub each_pushed : {X R : Type 0} {P : X → R → Type 0} (n : ℕ) {xs : List X} {before after : List R} {x : X} {r : R} {result : Result (Unit {0}) Full} → Each P xs before → Pushed n before r after result → result ≡ Ok tt → P x r → Each P (xs ++ x ∷ []) after
+each_pushed {P} n {xs} {before} {after} {x} {r} {result} f pushed e p = go result e pushed
+  where
+    go : (o : Result (Unit {0}) Full) → o ≡ Ok tt → Pushed n before r after o → Each P (xs ++ x ∷ []) after
+    go (Ok _) e same = subst (Each P (xs ++ x ∷ [])) (sym same) (each_more xs before x r f p)
+    go (Err _) e h = cc
+
+pub pushed_counts : {R : Type 0} (n : ℕ) (before after : List R) (r : R) {result : Result (Unit {0}) Full} → Pushed n before r after result → result ≡ Ok tt → length after ≡ length before + 1
+pushed_counts n before after r {result} pushed e = go result e pushed
+  where
+    go : (o : Result (Unit {0}) Full) → o ≡ Ok tt → Pushed n before r after o → length after ≡ length before + 1
+    go (Ok _) e same = ap length same ∙ length-append before (r ∷ [])
+    go (Err _) e h = cc
+
+pub reads_all : {X R : Type 0} {read : List ℕ → ℕ → Step X} {first : Reader} {count i : ℕ} {now : Reader} {Q : List X → Type 0} {P : List X → R → Type 0} (f : SoFar read first count i now Q) (made : R) → i ≡ count → (Q f.made → P f.made made) → Reads P (many read count) first now (Ok made)
+reads_all f made e step = record { same = f.same; told = record { part = f.made; read = many_all f e; made = step f.holds } }

@@ -1,25 +1,25 @@
 -- Variables that are read. Assumes nothing.
-use Rattle.std.proofs.Common.{◌≡◌, ℕ, zero, suc, ◌+◌, ◌-◌, ◌<◌, ◌≤◌, Bool, true, false, cond, eqb, ◌≢◌, ◌⊎◌, List, [], ◌∷◌, ◌++◌, length, get_or, set, replicate, Some, None, Err, Option, sym, refl, ap, ◌∙◌, subst, inl, inr, arith, length-set, get_or-set_other, get_or-set_same}
+use Rattle.std.proofs.Common.{◌≡◌, ℕ, zero, suc, ◌+◌, ◌-◌, ◌<◌, ◌≤◌, Bool, true, false, cond, eqb, ◌≢◌, ◌⊎◌, List, [], ◌∷◌, ◌++◌, length, get_or, set, replicate, Some, None, Ok, Err, Option, sym, refl, ap, ◌∙◌, subst, inl, inr, arith, length-set, get_or-set_other, get_or-set_same}
 use Rattle.std.proofs.lemmas.Bool.{eq-eqb, ne_eqb, cond-true, cond-false, cases_eq}
-use Rattle.language.proofs.Steps.{variables_none, variables_more}
+use Rattle.std.specs.Option.{option_map}
+use Rattle.language.proofs.Steps.{variables_none as variables_end, variables_more as variables_step}
 use Rattle.language.specs.ExpressionLaws.{none_some}
 use Rattle.language.specs.TableReading.{variable_read}
-use Rattle.language.specs.Tables.{TableVariable, variable_at, variable_kind, variable_top, VariableRight, fine, and_then, read_variable, read_variables}
-use Rattle.model.specs.declared.Kind.{Kind}
-use Rattle.layout.specs.Told.{end_told, Fine}
-use Rattle.layout.specs.Variables.{IsVariable, VariablesLaid}
-use Rattle.layout.specs.declared.bytes.Stop.{Stop}
+use Rattle.language.specs.Tables.{TableVariable, variable_at, VariableRight, fine, and_then, read_variable, read_variables}
+use Rattle.model.specs.declared.Fault.{Fault}
+use Rattle.layout.specs.Reads.{end_told, Fine, Reads}
+use Rattle.layout.specs.Variables.{IsVariable, VariablesLaid, kept}
+use Rattle.layout.specs.declared.reader.Reader.{Reader}
 use Rattle.layout.specs.declared.variables.Variable.{Variable}
-use Rattle.layout.specs.declared.variables.Variables.{Variables}
-use Rattle.layout.proofs.Answered.{then_stops, then_goes}
+use Rattle.layout.proofs.Answered.{reads_from, then_stops, then_goes}
 use Rattle.layout.proofs.Rows.{behind, behind_none, behind_more, behind_all}
 
 -- ---- rows of what the variables are
 
-pub blank : {A : Type 0} (d : A) (k n : ℕ) → get_or (replicate k d) n d ≡ d
-blank d zero n = refl
-blank d (suc k) zero = refl
-blank d (suc k) (suc n) = blank d k n
+blank : (k n : ℕ) → get_or {A = Option Variable} (replicate k None) n None ≡ None
+blank zero n = refl
+blank (suc k) zero = refl
+blank (suc k) (suc n) = blank k n
 
 at_new : (made : List TableVariable) (v : TableVariable) (n : ℕ) → variable_at made n ≡ None → v.name ≡ n → variable_at (made ++ (v ∷ [])) n ≡ Some v
 at_new [] v n h e = cond-true (eqb v.name n) (Some v) None (eq-eqb v.name n e)
@@ -33,82 +33,104 @@ at_other : (made : List TableVariable) (v : TableVariable) (n : ℕ) → (v.name
 at_other [] v n ne = cond-false (eqb v.name n) (Some v) None (ne_eqb v.name n ne)
 at_other (u ∷ made) v n ne = ap (cond (eqb u.name n) (Some u)) (at_other made v n ne)
 
-row_more : {A : Type 0} (of : Option TableVariable → A) (d : A) (rows : List A) (made : List TableVariable) (v : TableVariable) → variable_at made v.name ≡ None → v.name < length rows → ((n : ℕ) → get_or rows n d ≡ of (variable_at made n)) → (n : ℕ) → get_or (set rows v.name (of (Some v))) n d ≡ of (variable_at (made ++ (v ∷ [])) n)
-row_more of d rows made v new inside h n = go (cases_eq v.name n)
+-- each name has what is kept of its variable, if it is one
+abbrev Laid : List TableVariable → List (Option Variable) → Type 0
+Laid vs rows = (n : ℕ) → get_or rows n None ≡ option_map kept (variable_at vs n)
+
+row_more : (rows : List (Option Variable)) (made : List TableVariable) (v : TableVariable) → variable_at made v.name ≡ None → v.name < length rows → Laid made rows → Laid (made ++ (v ∷ [])) (set rows v.name (Some (kept v)))
+row_more rows made v new inside h n = go (cases_eq v.name n)
   where
-    go : (v.name ≡ n) ⊎ (v.name ≡ n → ⊥) → get_or (set rows v.name (of (Some v))) n d ≡ of (variable_at (made ++ (v ∷ [])) n)
+    go : (v.name ≡ n) ⊎ (v.name ≡ n → ⊥) → get_or (set rows v.name (Some (kept v))) n None ≡ option_map kept (variable_at (made ++ (v ∷ [])) n)
     go (inl e) =
-        ap (λ i. get_or (set rows v.name (of (Some v))) i d) (sym e) ∙ get_or-set_same rows v.name (of (Some v)) d inside
-        ∙ sym (ap of (at_new made v n (ap (variable_at made) (sym e) ∙ new) e))
+        ap (λ i. get_or (set rows v.name (Some (kept v))) i None) (sym e) ∙ get_or-set_same rows v.name (Some (kept v)) None inside
+        ∙ sym (ap (option_map kept) (at_new made v n (ap (variable_at made) (sym e) ∙ new) e))
     go (inr ne) =
         let other : n ≢ v.name = λ e. ne (sym e) in
-        get_or-set_other rows v.name n (of (Some v)) d other ∙ h n ∙ sym (ap of (at_other made v n ne))
+        get_or-set_other rows v.name n (Some (kept v)) None other ∙ h n ∙ sym (ap (option_map kept) (at_other made v n ne))
 
 -- ---- so many variables
 
-module _ (bs : List ℕ) where
-  pub record VariablesSoFar (count start i lowest k : ℕ) (kinds : List (Option Kind)) (tops : List ℕ) : Type 0 where
-    pub made : List TableVariable
-    pub ahead : read_variables 0 count bs start ≡ behind made (read_variables lowest (count - i) bs k)
-    pub laid : VariablesLaid made (record { kinds = kinds; tops = tops })
-    pub fresh : (n : ℕ) → lowest ≤ n → variable_at made n ≡ None
+-- so many variables have been read, up to where the reader stands now
+pub record VariablesSoFar (first : Reader) (count i lowest : ℕ) (now : Reader) (rows : List (Option Variable)) : Type 0 where
+  pub same : now.bytes ≡ first.bytes
+  pub made : List TableVariable
+  pub ahead : read_variables 0 count first.bytes.now first.place ≡ behind made (read_variables lowest (count - i) first.bytes.now now.place)
+  pub full : length rows ≡ 32
+  pub laid : Laid made rows
+  pub fresh : (n : ℕ) → lowest ≤ n → variable_at made n ≡ None
 
-  pub name_small : (lowest k : ℕ) (u : Variable) (next : ℕ) → Fine {R = Variable} IsVariable (read_variable lowest bs k) (u, next) → u.name ≤ 31
-  name_small lowest k u next found = subst (λ (v : TableVariable). v.name ≤ 31) found.made (variable_read lowest bs k found.part next found.read).holds.name_high
+pub name_small : (lowest : ℕ) {name : ℕ} {u : Variable} {now next : Reader} → Reads IsVariable (read_variable lowest) now next (Ok (name, u)) → name ≤ 31
+name_small lowest {name} {u} {now} {next} r =
+    subst (λ (v : TableVariable). v.name ≤ 31) r.told.made (variable_read lowest now.bytes.now now.place r.told.part next.place r.told.read).holds.name_high
 
-  pub so_far_none : (count start : ℕ) → VariablesSoFar count start 0 0 start (replicate 32 None) (replicate 32 0)
-  so_far_none count start =
-      let same : count ≡ count - 0 = omega arith in
+pub variables_none : (first : Reader) (count : ℕ) → VariablesSoFar first count 0 0 first (replicate 32 None)
+variables_none first count =
+    let all = read_variables 0 count first.bytes.now first.place in
+    let same : count ≡ count - 0 = omega arith in
+    record {
+      same = refl;
+      made = [];
+      ahead = behind_none all ∙ ap (λ n. behind [] (read_variables 0 n first.bytes.now first.place)) same;
+      full = refl;
+      laid = blank 32;
+      fresh = λ n l. refl;
+    }
+
+more_left : (lowest n m : ℕ) (bs : List ℕ) (k : ℕ) → n ≡ m + 1 → read_variables lowest n bs k ≡ and_then (read_variable lowest bs k) (λ v k. and_then (read_variables (v.name + 1) m bs k) (λ vs end. fine (v ∷ vs) end))
+more_left lowest n m bs k e = ap (λ i. read_variables lowest i bs k) e ∙ variables_step lowest m bs k
+
+module _ {first : Reader} {count i lowest : ℕ} {now : Reader} {rows : List (Option Variable)} (f : VariablesSoFar first count i lowest now rows) where
+  abbrev bs : List ℕ
+  bs = first.bytes.now
+
+  pub variables_stop : {next : Reader} {fault : Fault} → i < count → Reads IsVariable (read_variable lowest) now next (Err fault) → Reads VariablesLaid (read_variables 0 count) first next (Err fault)
+  variables_stop {next} {fault} l r =
+      let all = length bs in
+      let here : end_told all (read_variable lowest bs now.place) ≡ Err fault = reads_from first f.same r in
       record {
-        made = [];
-        ahead = behind_none (read_variables 0 count bs start) ∙ ap (λ n. behind [] (read_variables 0 n bs start)) same;
-        laid = record { kind_rows = refl; top_rows = refl; kinds = blank None 32; tops = blank 0 32 };
-        fresh = λ n l. refl;
+        same = r.same ∙ f.same;
+        told =
+            ap (end_told all) f.ahead
+            ∙ then_stops all (read_variables lowest (count - i) bs now.place) _ fault (ap (end_told all) (more_left lowest (count - i) (count - (i + 1)) bs now.place (omega arith)) ∙ then_stops all (read_variable lowest bs now.place) _ fault here);
       }
 
-  more_left : (lowest n m k : ℕ) → n ≡ m + 1 → read_variables lowest n bs k ≡ and_then (read_variable lowest bs k) (λ v k. and_then (read_variables (v.name + 1) m bs k) (λ vs end. fine (v ∷ vs) end))
-  more_left lowest n m k e = ap (λ i. read_variables lowest i bs k) e ∙ variables_more lowest m bs k
+  pub variables_more : {name : ℕ} {u : Variable} {next : Reader} → i < count → Reads IsVariable (read_variable lowest) now next (Ok (name, u)) → VariablesSoFar first count (i + 1) (name + 1) next (set rows name (Some u))
+  variables_more {name} {u} {next} l r =
+      record {
+        same = r.same ∙ f.same;
+        made = f.made ++ (v ∷ []);
+        ahead =
+            f.ahead ∙ ap (behind f.made) (more_left lowest (count - i) (count - (i + 1)) bs now.place (omega arith) ∙ then_goes (read_variable lowest bs now.place) _ v next.place read)
+            ∙ behind_more f.made v (read_variables (v.name + 1) (count - (i + 1)) bs next.place);
+        full = length-set rows v.name (Some (kept v)) ∙ f.full;
+        laid = row_more rows f.made v new (omega (arith, right.name_high, f.full)) f.laid;
+        fresh = λ n h. at_other f.made v n (omega arith) ∙ f.fresh n (omega (arith, right.name_low));
+      }
+    where
+      v : TableVariable
+      v = record { name = name; kind = u.kind; top = u.top }
 
-  module _ (count start i lowest k : ℕ) (kinds : List (Option Kind)) (tops : List ℕ) (f : VariablesSoFar count start i lowest k kinds tops) where
-    pub so_far_stops : (stop : Stop) → i < count → end_told (read_variable lowest bs k) ≡ Err stop → end_told (read_variables 0 count bs start) ≡ Err stop
-    so_far_stops stop l e =
-        ap end_told f.ahead
-        ∙ then_stops (read_variables lowest (count - i) bs k) _ stop (ap end_told (more_left lowest (count - i) (count - (i + 1)) k (omega arith)) ∙ then_stops (read_variable lowest bs k) _ stop e)
+      found : Fine {R = ℕ × Variable} IsVariable (read_variable lowest bs now.place) ((name, u), next.place)
+      found = reads_from first f.same r
 
-    pub so_far_more : (u : Variable) (next : ℕ) → i < count → Fine {R = Variable} IsVariable (read_variable lowest bs k) (u, next) → VariablesSoFar count start (i + 1) (u.name + 1) next (set kinds u.name (Some u.kind)) (set tops u.name u.top)
-    so_far_more u next l found =
-        record {
-          made = f.made ++ (v ∷ []);
-          ahead =
-              f.ahead ∙ ap (behind f.made) (more_left lowest (count - i) (count - (i + 1)) k (omega arith) ∙ then_goes (read_variable lowest bs k) _ v next read)
-              ∙ behind_more f.made v (read_variables (v.name + 1) (count - (i + 1)) bs next);
-          laid =
-              record {
-                kind_rows = length-set kinds v.name (Some v.kind) ∙ f.laid.kind_rows;
-                top_rows = length-set tops v.name v.top ∙ f.laid.top_rows;
-                kinds = row_more variable_kind None kinds f.made v new (omega (arith, right.name_high, f.laid.kind_rows)) f.laid.kinds;
-                tops = row_more variable_top 0 tops f.made v new (omega (arith, right.name_high, f.laid.top_rows)) f.laid.tops;
-              };
-          fresh = λ n h. at_other f.made v n (omega arith) ∙ f.fresh n (omega (arith, right.name_low));
-        }
-      where
-        v : TableVariable
-        v = record { name = u.name; kind = u.kind; top = u.top }
+      read : read_variable lowest bs now.place ≡ fine v next.place
+      read = found.read ∙ ap (λ x. fine x next.place) found.made
 
-        read : read_variable lowest bs k ≡ fine v next
-        read = found.read ∙ ap (λ x. fine x next) found.made
+      right : VariableRight lowest v
+      right = (variable_read lowest bs now.place v next.place read).holds
 
-        right : VariableRight lowest v
-        right = (variable_read lowest bs k v next read).holds
+      new : variable_at f.made v.name ≡ None
+      new = f.fresh v.name right.name_low
 
-        new : variable_at f.made v.name ≡ None
-        new = f.fresh v.name right.name_low
-
-    pub so_far_all : i ≡ count → Fine {R = Variables} VariablesLaid (read_variables 0 count bs start) (record { kinds = kinds; tops = tops }, k)
-    so_far_all e =
-        let none : count - i ≡ 0 = omega arith in
-        record {
-          part = f.made;
-          read = f.ahead ∙ ap (λ n. behind f.made (read_variables lowest n bs k)) none ∙ ap (behind f.made) (variables_none lowest bs k) ∙ behind_all f.made k;
-          made = f.laid;
-        }
+  pub variables_all : i ≡ count → (full : length rows ≡ 32) → Reads VariablesLaid (read_variables 0 count) first now (Ok (record { rows = rows; full = full }))
+  variables_all e full =
+      let none : count - i ≡ 0 = omega arith in
+      record {
+        same = f.same;
+        told =
+            record {
+              part = f.made;
+              read = f.ahead ∙ ap (λ n. behind f.made (read_variables lowest n bs now.place)) none ∙ ap (behind f.made) (variables_end lowest bs now.place) ∙ behind_all f.made now.place;
+              made = f.laid;
+            };
+      }

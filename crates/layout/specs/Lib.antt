@@ -1,7 +1,8 @@
-pub mod Atoms
 pub mod Items
 pub mod Laid
 pub mod Read
+pub mod Reads
+pub mod Rows
+pub mod Rules
 pub mod Sets
-pub mod Told
 pub mod Variables

@@ -1,10 +1,8 @@
 -- What reading a byte string answers. Assumes nothing.
-use Rattle.std.specs.Prelude.{◌≡◌, ℕ, ◌≤◌, List, Some, Ok, Err, Result}
+use Rattle.std.specs.Prelude.{◌≡◌, ℕ, List, Some, Ok, Err, Result}
 use Rattle.language.specs.Tables.{TableSyntax, opened, table_opened, table_fault}
 use Rattle.model.specs.declared.Fault.{Fault}
 use Rattle.layout.specs.Laid.{Laid}
-use Rattle.layout.specs.declared.bytes.Stop.{Stop}
-use Rattle.layout.specs.declared.bytes.Stop.TheVariants.{Wrong, Missing}
 use Rattle.layout.specs.declared.parts.Layout.{Layout}
 
 -- the bytes are a table, and this is its layout
@@ -17,13 +15,3 @@ pub record Opens (bs : List ℕ) (l : Layout) : Type 0 where
 abbrev pub Read : List ℕ → Result Layout Fault → Type 0
 Read bs (Ok l) = Opens bs l
 Read bs (Err fault) = table_fault bs ≡ Some fault
-
--- the fault that stops the reading of a string of so many bytes
-abbrev pub stop_fault : ℕ → Stop → Fault
-stop_fault all (Wrong number place) = record { number = number; layer = 0; place = place }
-stop_fault all Missing = record { number = 2; layer = 0; place = all }
-
--- it lies in the bytes or just past them
-abbrev pub Inside : ℕ → Stop → Type 0
-Inside all (Wrong number place) = place ≤ all
-Inside all Missing = Unit {0}

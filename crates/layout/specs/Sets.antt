@@ -1,27 +1,26 @@
--- Sets of names, and the kinds that they are judged by. Assumes nothing.
-use Rattle.std.specs.Prelude.{◌≡◌, ℕ, Bool, false, List, is_some, Some, None, Option, slice_index_or}
-use Rattle.language.specs.Tables.{TableVariable, bit, own_kind, variable_at, variable_kind}
+-- Sets of names, and how they are judged. Assumes nothing.
+use Rattle.std.specs.Prelude.{◌≡◌, ℕ, Bool, false, Some, None, Option}
+use Rattle.language.specs.Tables.{bit}
 use Rattle.model.specs.Sets.{has}
 use Rattle.model.specs.Tests.{implies}
-use Rattle.model.specs.declared.Kind.{Kind}
 use Rattle.model.specs.declared.names.Names.{Names}
+use Rattle.layout.specs.Variables.{at}
+use Rattle.layout.specs.declared.variables.Variable.{Variable}
+use Rattle.layout.specs.declared.variables.Variables.{Variables}
 
 -- the set that the number stands for
 abbrev pub NamesOf : ℕ → Names → Type 0
 NamesOf w names = (n : ℕ) → has names n ≡ bit w n
 
--- the kinds are those of the variables
-abbrev pub KindsOf : List TableVariable → List (Option Kind) → Type 0
-KindsOf vs kinds = (n : ℕ) → slice_index_or kinds n None ≡ variable_kind (variable_at vs n)
+-- whatever is answered of a set is what p says of its number
+abbrev pub Judges : (Names → Bool → Type 0) → (ℕ → Bool) → Type 0
+Judges answered p = (w : ℕ) (names : Names) (b : Bool) → NamesOf w names → answered names b → b ≡ p w
 
-abbrev pub own : Option Kind → Bool
-own None = false
-own (Some k) = own_kind k
+-- it is a variable, and p holds of it
+abbrev pub passes : (Variable → Bool) → Option Variable → Bool
+passes p None = false
+passes p (Some v) = p v
 
--- if the name is in the set, it is a variable that is not external
-abbrev pub own_in : List (Option Kind) → Names → ℕ → Bool
-own_in kinds names n = implies (has names n) (own (slice_index_or kinds n None))
-
--- if the name is in the set, it is a variable
-abbrev pub known_in : List (Option Kind) → Names → ℕ → Bool
-known_in kinds names n = implies (has names n) (is_some (slice_index_or kinds n None))
+-- if the name is in the set, it stands for a variable of which p holds
+abbrev pub passes_in : (Variable → Bool) → Variables → Names → ℕ → Bool
+passes_in p variables names n = implies (has names n) (passes p (at variables n))

@@ -1,19 +1,21 @@
 -- Variables that are read. Assumes nothing.
-use Rattle.std.specs.Prelude.{◌≡◌, ℕ, List, length, slice_index}
-use Rattle.language.specs.Tables.{TableVariable, variable_at, variable_top}
-use Rattle.layout.specs.Sets.{KindsOf}
+use Rattle.std.specs.Prelude.{◌≡◌, ℕ, List, None, Option, slice_index_or}
+use Rattle.std.specs.Option.{option_map}
+use Rattle.language.specs.Tables.{TableVariable, variable_at}
 use Rattle.layout.specs.declared.variables.Variable.{Variable}
 use Rattle.layout.specs.declared.variables.Variables.{Variables}
 
-abbrev pub IsVariable : TableVariable → Variable → Type 0
-IsVariable v u = v ≡ record { name = u.name; kind = u.kind; top = u.top }
+-- what is kept of a variable beside its name
+abbrev pub kept : TableVariable → Variable
+kept v = record { kind = v.kind; top = v.top }
 
--- the tops are those of the variables
-abbrev pub TopsOf : List TableVariable → List ℕ → Type 0
-TopsOf vs tops = (n : ℕ) → slice_index tops n ≡ variable_top (variable_at vs n)
+abbrev pub IsVariable : TableVariable → ℕ × Variable → Type 0
+IsVariable v (name, u) = v ≡ record { name = name; kind = u.kind; top = u.top }
 
-pub record VariablesLaid (vs : List TableVariable) (l : Variables) : Type 0 where
-  pub kind_rows : length l.kinds ≡ 32
-  pub top_rows : length l.tops ≡ 32
-  pub kinds : KindsOf vs l.kinds
-  pub tops : TopsOf vs l.tops
+-- the variable that the name stands for, if any
+abbrev pub at : Variables → ℕ → Option Variable
+at l n = slice_index_or l.rows n None
+
+-- each name stands for what it does among the variables
+abbrev pub VariablesLaid : List TableVariable → Variables → Type 0
+VariablesLaid vs l = (n : ℕ) → at l n ≡ option_map kept (variable_at vs n)

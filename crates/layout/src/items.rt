@@ -2,61 +2,51 @@
 ghost use Rattle.expression.specs.Checking.{seen_of};
 ghost use Rattle.language.specs.Expressions.{whole_number, whole_truth};
 ghost use Rattle.language.specs.Tables.{expression_item, many};
-ghost use Rattle.layout.specs.Items.{span_item};
-ghost use Rattle.layout.specs.Told.{told, end_told};
-ghost use Rattle.std.specs.Prelude.{◌≡◌};
+ghost use Rattle.layout.specs.Items.{Checks, FaultsInside, judged_item};
+ghost use Rattle.layout.specs.Reads.{Passes};
+ghost use Rattle.std.specs.Fn.{FnReturnsAt};
+ghost use Rattle.std.specs.Prelude.{◌≡◌, ℕ, List, Option};
 
-use crate::bytes::{Stop, byte_between};
-use crate::numbers::EXPRESSION;
+use crate::reader::Reader;
+use crate::rules::Rule;
 use expression::{Seen, check_number, check_truth};
+use model::Fault;
 
-// From where up to where the expression stands whose length byte is here.
-fn span(bytes: &[u8], place: usize) -> Result<(usize, usize), Stop>
-    ensures { result ≡ told (span_item bytes.now place) }
-{
-    let (size, start) = byte_between(bytes, place, EXPRESSION, 1, 64)?;
-    if size as usize <= bytes.len() - start {
-        Ok((start, start + size as usize))
-    } else {
-        Err(Stop::Missing)
+impl Reader<'_> {
+    // An expression behind its length byte. The check tells the place of its first fault.
+    fn expression<F: Fn(&[u8]) -> Result<(), usize>>(&mut self, check: F) -> Result<(), Fault>
+        requires can { F.IsAlwaysCallable check }
+        requires inside { FaultsInside (FnReturnsAt F.Fn check) }
+        ensures { (fault : List ℕ → Option ℕ) → Checks (FnReturnsAt F.Fn check) fault → Passes (judged_item fault) self.old self.new result }
+    {
+        let size = self.byte_between(Rule::Expression, 1, 64)?;
+        let start = usize::from(self.place());
+        let part = self.part(size)?;
+        match check(part) {
+            Ok(()) => Ok(()),
+            Err(fault) => Err(Rule::Expression.broken_at(start + fault)),
+        }
     }
-}
 
-// The place after a truth and its length byte.
-pub fn truth_end(bytes: &[u8], place: usize, seen: &Seen) -> Result<usize, Stop>
-    ensures { result ≡ end_told (expression_item (whole_truth 8 (seen_of seen.now)) bytes.now place) }
-{
-    let (start, end) = span(bytes, place)?;
-    match check_truth(&bytes[start..end], seen) {
-        Ok(()) => Ok(end),
-        Err(fault) => Err(Stop::Wrong {
-            number: EXPRESSION,
-            place: start + fault,
-        }),
+    pub fn truth(&mut self, seen: &Seen) -> Result<(), Fault>
+        ensures { Passes (expression_item (whole_truth 8 (seen_of seen.now))) self.old self.new result }
+    {
+        self.expression(|part| check_truth(part, seen))
     }
-}
 
-// The place after a number and its length byte.
-fn number_end(bytes: &[u8], place: usize, seen: &Seen) -> Result<usize, Stop>
-    ensures { result ≡ end_told (expression_item (whole_number 8 (seen_of seen.now)) bytes.now place) }
-{
-    let (start, end) = span(bytes, place)?;
-    match check_number(&bytes[start..end], seen) {
-        Ok(()) => Ok(end),
-        Err(fault) => Err(Stop::Wrong {
-            number: EXPRESSION,
-            place: start + fault,
-        }),
+    fn number(&mut self, seen: &Seen) -> Result<(), Fault>
+        ensures { Passes (expression_item (whole_number 8 (seen_of seen.now))) self.old self.new result }
+    {
+        self.expression(|part| check_number(part, seen))
     }
-}
 
-// The place after so many numbers.
-pub fn numbers_end(bytes: &[u8], place: usize, seen: &Seen, count: u8) -> Result<usize, Stop>
-    ensures { result ≡ end_told (many (expression_item (whole_number 8 (seen_of seen.now))) count bytes.now place) }
-{
-    let mut end = place;
-    for _number in 0..count {
-        end = number_end(bytes, end, seen)?;
+    // So many numbers.
+    pub fn numbers(&mut self, seen: &Seen, count: u8) -> Result<(), Fault>
+        ensures { Passes (many (expression_item (whole_number 8 (seen_of seen.now))) count) self.old self.new result }
+    {
+        for _ in 0..count {
+            self.number(seen)?;
+        }
+        Ok(())
     }
-    Ok(end)
 }

@@ -2,14 +2,15 @@
 #![tactic(auto)]
 
 mod atoms;
-mod bytes;
 mod choices;
 mod items;
-mod numbers;
 mod parts;
+mod reader;
 mod reading;
+mod rules;
 mod sets;
 mod variables;
 
-pub use parts::{AtomLayout, ChoiceLayout, Layout};
+pub use parts::{AtomLayout, Layout, Places};
 pub use reading::read;
+pub use variables::{Variable, Variables};

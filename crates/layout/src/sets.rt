@@ -1,133 +1,78 @@
 // Sets of names, each written as four bytes.
-ghost use Rattle.std.specs.Prelude.{◌≡◌, ℕ, ◌<◌, ◌&&◌, List, nat_lt};
-ghost use Rattle.language.specs.Tables.{TableVariable, bit, rank, names_own, names_variables, set_item};
-ghost use Rattle.layout.specs.Sets.{own, own_in, known_in, KindsOf, NamesOf};
-ghost use Rattle.layout.specs.Told.{Told};
+ghost use Rattle.language.specs.Tables.{TableVariable, names_own, names_variables, set_item};
+ghost use Rattle.layout.specs.Reads.{Reads};
+ghost use Rattle.layout.specs.Sets.{Judges, NamesOf, passes_in};
+ghost use Rattle.layout.specs.Variables.{VariablesLaid};
+ghost use Rattle.layout.specs.declared.variables.Variable.{Variable};
 ghost use Rattle.model.specs.Sets.{has};
-ghost use Rattle.model.specs.Tests.{every};
+ghost use Rattle.model.specs.Tests.{every, count};
+ghost use Rattle.std.specs.Fn.{FnReturnsAt};
+ghost use Rattle.std.specs.Prelude.{◌≡◌, ℕ, Bool, List};
 
-use crate::bytes::{Stop, word_at};
-use crate::numbers::ATOM;
-use model::{Kind, Names};
+use crate::reader::Reader;
+use crate::rules::Rule;
+use crate::variables::{Variable, Variables};
+use model::{Fault, Kind, Names, all_below, count_below};
 
 // The names in the set that the number stands for: name n where bit n is 1.
 fn names_of(word: u32) -> Names
-    ensures { (n : ℕ) → has result n ≡ bit word n }
+    ensures { NamesOf word result }
 {
     let mut names = Names::none();
-    let mut rest = word;
     for name in 0..32 {
-        if rest % 2 == 1 {
+        if (word >> name) % 2 == 1 {
             names = names.with(name);
         }
-        rest /= 2;
     }
     names
 }
 
 // How many names are in the set.
 pub fn count(names: &Names) -> u8
-    ensures { result ≡ rank (has names.now) 32 }
+    ensures { result ≡ count (has names.now) 32 }
 {
-    let mut found = 0;
-    for name in 0..32 {
-        if names.has(name) {
-            found += 1;
-        }
-    }
-    found
+    count_below(32, |name| names.has(name))
 }
 
-fn is_own(kind: Option<Kind>) -> bool
-    ensures { result ≡ own kind }
+// Does each name of the set stand for a variable that passes the test?
+fn all_pass<F: Fn(Variable) -> bool>(variables: &Variables, names: &Names, test: F) -> bool
+    requires { F.IsAlwaysCallable test }
+    ensures { (p : Variable → Bool) → ((v : Variable) (b : Bool) → F.post test v b → b ≡ p v) → result ≡ every (passes_in p variables.now names.now) 32 }
 {
-    match kind {
-        Some(Kind::Private | Kind::Interface) => true,
-        Some(Kind::External) | None => false,
-    }
+    all_below(32, |name| {
+        !names.has(name) || variables.at(name).is_some_and(|variable| test(variable))
+    })
 }
 
-fn is_own_in(kinds: [Option<Kind>; 32], names: &Names, name: u8) -> bool
-    requires { name < 32 }
-    ensures { result ≡ own_in kinds names.now name }
+// Does each name of the set stand for a variable?
+pub fn are_known(variables: &Variables, names: &Names) -> bool
+    ensures { (vs : List TableVariable) (w : ℕ) → VariablesLaid vs variables.now → NamesOf w names.now → result ≡ names_variables vs w }
 {
-    !names.has(name) || is_own(kinds[name as usize])
+    all_pass(variables, names, |_| true)
 }
 
-fn is_known_in(kinds: [Option<Kind>; 32], names: &Names, name: u8) -> bool
-    requires { name < 32 }
-    ensures { result ≡ known_in kinds names.now name }
+// Is there a name in the set, and does each stand for a variable that is not external?
+pub fn are_own(variables: &Variables, names: &Names) -> bool
+    ensures { (vs : List TableVariable) (w : ℕ) → VariablesLaid vs variables.now → NamesOf w names.now → result ≡ names_own vs w }
 {
-    !names.has(name) || kinds[name as usize].is_some()
-}
-
-// Is each name of the set a variable that is not external?
-fn all_own(kinds: [Option<Kind>; 32], names: &Names) -> bool
-    ensures { result ≡ every (own_in kinds names.now) 32 }
-{
-    for name in 0..32 {
-        if !is_own_in(kinds, names, name) {
-            return false;
-        }
-    }
-    true
-}
-
-// Is each name of the set a variable?
-fn all_known(kinds: [Option<Kind>; 32], names: &Names) -> bool
-    ensures { result ≡ every (known_in kinds names.now) 32 }
-{
-    for name in 0..32 {
-        if !is_known_in(kinds, names, name) {
-            return false;
-        }
-    }
-    true
-}
-
-// Is there a name in the set, and is each a variable that is not external?
-fn is_own_set(kinds: [Option<Kind>; 32], names: &Names) -> bool
-    ensures { result ≡ (nat_lt 0 (rank (has names.now) 32) && every (own_in kinds names.now) 32) }
-{
-    count(names) > 0 && all_own(kinds, names)
-}
-
-// The names that an atom controls: at least one, each a variable that is not external.
-pub fn own_set(
-    bytes: &[u8],
-    place: usize,
-    kinds: [Option<Kind>; 32],
-) -> Result<(Names, usize), Stop>
-    ensures { (vs : List TableVariable) → KindsOf vs kinds → Told NamesOf (set_item (names_own vs) bytes.now place) result }
-{
-    let (word, next) = word_at(bytes, place)?;
-    let names = names_of(word);
-    if is_own_set(kinds, &names) {
-        Ok((names, next))
-    } else {
-        Err(Stop::Wrong {
-            number: ATOM,
-            place,
+    count(names) > 0
+        && all_pass(variables, names, |variable| {
+            matches!(variable.kind, Kind::Private | Kind::Interface)
         })
-    }
 }
 
-// Names that an atom reads or awaits: each a variable.
-pub fn known_set(
-    bytes: &[u8],
-    place: usize,
-    kinds: [Option<Kind>; 32],
-) -> Result<(Names, usize), Stop>
-    ensures { (vs : List TableVariable) → KindsOf vs kinds → Told NamesOf (set_item (names_variables vs) bytes.now place) result }
-{
-    let (word, next) = word_at(bytes, place)?;
-    let names = names_of(word);
-    if all_known(kinds, &names) {
-        Ok((names, next))
-    } else {
-        Err(Stop::Wrong {
-            number: ATOM,
-            place,
-        })
+impl Reader<'_> {
+    // A set of names that passes the test.
+    pub fn set<F: Fn(&Names) -> bool>(&mut self, test: F) -> Result<Names, Fault>
+        requires { F.IsAlwaysCallable test }
+        ensures { (p : ℕ → Bool) → Judges (FnReturnsAt F.Fn test) p → Reads NamesOf (set_item p) self.old self.new result }
+    {
+        let place = self.place();
+        let names = names_of(self.word()?);
+        if test(&names) {
+            Ok(names)
+        } else {
+            Err(Rule::Atom.broken_at(usize::from(place)))
+        }
     }
 }

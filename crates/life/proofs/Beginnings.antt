@@ -5,7 +5,7 @@ use Rattle.std.proofs.lemmas.List.{length-replicate}
 use Rattle.std.proofs.lemmas.Bool.{and_from, and_parts, or_left, or_right, both_ways, cases_Bool, le-ltb, not-true}
 use Rattle.model.specs.Meanings.{OutlineFacts, Meaning}
 use Rattle.model.specs.States.{value, yields, nothing, InitialState}
-use Rattle.model.specs.Tests.{some}
+use Rattle.model.specs.Tests.{some, count}
 use Rattle.model.proofs.Bounded.{some_decides, some_at}
 use Rattle.model.proofs.Lowest.{clear_lowest}
 use Rattle.theory.specs.Enumerations.{below}
@@ -13,13 +13,12 @@ use Rattle.theory.specs.Members.{Member, Distinct}
 use Rattle.theory.specs.Runs.{Continues}
 use Rattle.theory.proofs.Enumerations.{below_exact, length_below}
 use Rattle.theory.proofs.Members.{pigeonhole}
-use Rattle.units.specs.Counting.{count}
 use Rattle.units.specs.Sealing.{awaits_atom, awaits_through, is_external, verdict}
 use Rattle.units.specs.Units.{wrong_value, kind_of_round, old_state, has_fired, must_wait, values_made}
 use Rattle.life.proofs.Calls.{old_in_range, zeros}
 use Rattle.life.proofs.Fitness.{InRange, Keeps, keeps}
 use Rattle.life.proofs.Rounds.{Midway, begins, one_less, fires, all_fired}
-use Rattle.life.proofs.Tallies.{some_clear, none_counted}
+use Rattle.model.proofs.Counted.{some_clear, none_counted}
 
 -- chains of atoms, each of which awaits the next
 

@@ -18,7 +18,7 @@ use Rattle.units.specs.Counting.{any}
 use Rattle.units.specs.Sealing.{owned, controllers, badly_controlled, awaits_through, circular, sees_too_much, values_at, old_names, sights, nothing_open, in_some_round, gets_stuck, within, gives_outside, leaves_range, at_lowest, verdict}
 use Rattle.units.proofs.Evidence.{else_parts, at_lowest_parts}
 use Rattle.units.proofs.Listed.{none_passes, below_at}
-use Rattle.life.proofs.Tallies.{some_clear, some_counted, only_one}
+use Rattle.model.proofs.Counted.{some_clear, some_counted, only_one}
 
 -- each value is at most its name's top
 abbrev pub InRange : OutlineFacts → Valuation → Type 0

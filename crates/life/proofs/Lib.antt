@@ -6,5 +6,4 @@ pub mod Fitness
 pub mod Lives
 pub mod Outcomes
 pub mod Rounds
-pub mod Tallies
 pub mod Written

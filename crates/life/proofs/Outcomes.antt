@@ -5,7 +5,7 @@ use Rattle.std.proofs.lemmas.Bool.{and_from, or_from, both_ways, cases_Bool, cas
 use Rattle.composition.specs.FaultLaws.{none_from}
 use Rattle.model.specs.Meanings.{Valuation, OutlineFacts, Alike, Meaning}
 use Rattle.model.specs.States.{value, yields}
-use Rattle.model.specs.Tests.{lowest}
+use Rattle.model.specs.Tests.{lowest, count}
 use Rattle.model.specs.declared.Fault.{Fault}
 use Rattle.model.specs.declared.Kind.{Kind}
 use Rattle.model.specs.declared.Kind.TheVariants.{Private, Interface, External}
@@ -14,7 +14,6 @@ use Rattle.model.proofs.Lowest.{clear_lowest}
 use Rattle.model.proofs.Marks.{unmarked}
 use Rattle.model.proofs.States.{state_parts, takes_parts, yields_parts}
 use Rattle.theory.specs.Enumerations.{below}
-use Rattle.units.specs.Counting.{count}
 use Rattle.units.specs.Sealing.{owned, is_external, at_lowest, if_so, verdict, ◌else◌}
 use Rattle.units.specs.Units.{Phase, idle, standing, in_round, UnitModel, Slip, done, Outcome, refused_or, unless, verdict_of, not_all_held, round_open, wrong_value, stands, wrong_slip, kind_of_round, old_state, has_fired, must_wait, fire_refusal_in, as_value, values_made, yet_to_fire, ended, end_if, open_round, fire, end_round}
 use Rattle.units.proofs.Evidence.{else_parts, else_from, if_so_parts}
@@ -24,7 +23,7 @@ use Rattle.life.proofs.Calls.{PhaseRight}
 use Rattle.life.proofs.Fitness.{Keeps, keeps, length_row, row_at}
 use Rattle.life.proofs.Lives.{came_good}
 use Rattle.life.proofs.Rounds.{waited, fired_other, one_less, outcome}
-use Rattle.life.proofs.Tallies.{some_counted, none_counted}
+use Rattle.model.proofs.Counted.{some_counted, none_counted}
 
 -- rounds end in outcomes
 

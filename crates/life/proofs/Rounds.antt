@@ -4,16 +4,15 @@ use Rattle.std.proofs.lemmas.List.{length-set, length-replicate, get_or-set_same
 use Rattle.std.proofs.lemmas.Bool.{and_cases, both_ways, cases_Bool, cases_eq, cases_lt, cond-true, cond-false, cond_both, ltb-false, not-true, not-false, not_from_true, not_from_false}
 use Rattle.model.specs.Meanings.{Valuation, Alike, Meaning}
 use Rattle.model.specs.States.{value, takes, yields}
-use Rattle.model.specs.Tests.{some, lowest}
+use Rattle.model.specs.Tests.{some, lowest, count}
 use Rattle.model.specs.declared.Round.{Round}
 use Rattle.model.proofs.Lowest.{lowest_clear}
 use Rattle.model.proofs.Marks.{unmarked}
 use Rattle.model.proofs.States.{StateOf, state_parts, state_from, takes_parts, takes_from, yields_from}
-use Rattle.units.specs.Counting.{count}
 use Rattle.units.specs.Sealing.{is_external}
 use Rattle.units.specs.Units.{wrong_value, kind_of_round, old_state, has_fired, must_wait, as_value, values_made}
 use Rattle.life.proofs.Fitness.{InRange, Keeps, length_row, row_at}
-use Rattle.life.proofs.Tallies.{some_clear, none_counted, fewer}
+use Rattle.model.proofs.Counted.{some_clear, none_counted, fewer}
 
 -- The values given and made are a state of the module, each atom that has fired took a choice that leads there, and
 -- every atom that it awaits has fired too.

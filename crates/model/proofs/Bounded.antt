@@ -1,9 +1,9 @@
 -- Tests on all numbers below a bound. Assumes nothing.
-use Rattle.std.proofs.Common.{◌≡◌, ℕ, zero, suc, ◌+◌, ◌<◌, Bool, true, false, cond, ◌⊎◌, Some, None, Decides, refl, ap, ◌∙◌, subst, inl, inr, not-suc-le-zero, add-one, arith}
-use Rattle.std.proofs.lemmas.Bool.{and_from, or_from, cases_eq, cond-true, cond-false}
+use Rattle.std.proofs.Common.{◌≡◌, ℕ, zero, suc, ◌+◌, ◌<◌, Bool, true, false, cond, ◌⊎◌, Some, None, Option, is_some, ◌||◌, Decides, refl, ap, ◌∙◌, subst, inl, inr, not-suc-le-zero, add-one, arith}
+use Rattle.std.proofs.lemmas.Bool.{and_from, or_from, cases_eq, both_ways, cond-true, cond-false}
 use Rattle.std.proofs.lemmas.Bool.Decides.{Decides-below_and, Decides-below_or}
 use Rattle.std.specs.Option.{option_or}
-use Rattle.model.specs.Tests.{every, some, lowest}
+use Rattle.model.specs.Tests.{every, some, lowest, count}
 
 module _ (p : ℕ → Bool) where
   pub every_none : every p 0 ≡ true
@@ -53,3 +53,35 @@ module _ (p : ℕ → Bool) where
       go : (i ≡ n) ⊎ (i ≡ n → ⊥) → (i < n → lowest p n ≡ Some i) → option_or (lowest p n) (cond (p n) (Some n) None) ≡ Some i
       go (inl e) f = subst (λ m. option_or (lowest p m) (cond (p m) (Some m) None) ≡ Some i) e (ap (λ o. option_or o (cond (p i) (Some i) None)) l ∙ cond-true (p i) (Some i) None k)
       go (inr e) f = ap (λ o. option_or o (cond (p n) (Some n) None)) (f (omega arith))
+
+  pub count_none : count p 0 ≡ 0
+  unfolding count
+  count_none = refl
+
+  pub count_pass : (i : ℕ) → p i ≡ true → count p (i + 1) ≡ count p i + 1
+  unfolding count
+  count_pass i h = rw (add-one i) (ap (λ x. count p i + x) (cond-true (p i) 1 0 h))
+
+  pub count_fail : (i : ℕ) → p i ≡ false → count p (i + 1) ≡ count p i
+  unfolding count
+  count_fail i h = rw add-one (ap (λ x. count p i + x) (cond-false (p i) 1 0 h) ∙ omega arith)
+
+-- there is a lowest number that passes exactly where some number does
+pub lowest_there : (p : ℕ → Bool) (n : ℕ) → is_some (lowest p n) ≡ some p n
+unfolding lowest some
+lowest_there p zero = refl
+lowest_there p (suc n) = subst (λ b. is_some (option_or (lowest p n) (cond (p n) (Some n) None)) ≡ p n || b) (lowest_there p n) (go (lowest p n) (p n))
+  where
+    go : (o : Option ℕ) (b : Bool) → is_some (option_or o (cond b (Some n) None)) ≡ b || is_some o
+    go None true = refl
+    go None false = refl
+    go (Some i) true = refl
+    go (Some i) false = refl
+
+-- not all pass where one fails
+pub every_fails : (p : ℕ → Bool) (n i : ℕ) → i < n → p i ≡ false → every p n ≡ false
+every_fails p n i l e = go (every p n) refl
+  where
+    go : (b : Bool) → every p n ≡ b → b ≡ false
+    go false h = refl
+    go true h = absurd (both_ways (p i) e ((every_decides p n).0 h i l))

@@ -1,4 +1,6 @@
 pub mod Bounded
+pub mod Counted
+pub mod Gathered
 pub mod Lowest
 pub mod Marks
 pub mod States

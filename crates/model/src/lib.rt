@@ -1,12 +1,21 @@
 // The types that every drawing and every unit speak of.
 #![tactic(auto)]
 
+ghost use Rattle.model.specs.Faults.{own};
 ghost use Rattle.model.specs.States.{value};
 ghost use Rattle.std.specs.Prelude.{◌≡◌};
 
+mod below;
+mod exchange;
+mod kinds;
 mod names;
+mod row;
 
+pub use below::{all_below, any_below, count_below, lowest_below};
+pub use exchange::exchanged;
+pub use kinds::UnknownKind;
 pub use names::Names;
+pub use row::{Full, Row};
 
 // How a module's variable is controlled and seen: by the module alone, by the module for all to see,
 // or by its surroundings.
@@ -30,6 +39,19 @@ pub struct Fault {
     pub number: u8,
     pub layer: u8,
     pub place: u16,
+}
+
+impl Fault {
+    // What is wrong with the top layer itself, or with a drawing that has but one.
+    pub fn own(number: u8, place: u16) -> Fault
+        ensures { result ≡ own number place }
+    {
+        Fault {
+            number,
+            layer: 0,
+            place,
+        }
+    }
 }
 
 // A value for each of the 32 names, name 0 first.

@@ -1,109 +1,90 @@
 // Written expressions in infix notation. Only right expressions are shown; of any other what can be read is told.
 use expression::{NumberOperator, TruthOperator};
 use model::{State, value_of};
-use std::alloc::{AllocError, Global};
+use std::alloc::AllocError;
 
 // The most levels that an expression nests.
 const LEVELS: u8 = 8;
 
-// A written expression, and what each name is called.
+// What is left to read of a written expression, and what each name is called.
 #[derive(Clone, Copy)]
 pub struct Written<'a> {
-    pub heap: Global,
     pub bytes: &'a [u8],
     pub naming: State,
 }
 
 impl Written<'_> {
-    fn byte(&self, place: usize) -> u8 {
-        match self.bytes.get(place) {
-            Some(byte) => *byte,
-            None => 0,
-        }
+    // Passes over the next byte, which is told as 0 where there is none.
+    fn next(&mut self) -> u8 {
+        let Some((byte, rest)) = self.bytes.split_first() else {
+            return 0;
+        };
+        self.bytes = rest;
+        *byte
     }
 
-    fn add_constant(&self, text: &mut String, place: usize) -> Result<usize, AllocError> {
-        text.push_str(self.byte(place).to_string(self.heap)?.as_str())?;
-        Ok(place.saturating_add(1))
+    // What the name that comes next is called.
+    fn next_name(&mut self) -> u8 {
+        let name = self.next();
+        value_of(self.naming, name)
     }
 
-    fn add_name(&self, text: &mut String, word: &str, place: usize) -> Result<usize, AllocError> {
-        let name = value_of(self.naming, self.byte(place));
-        text.push_str(format!(in self.heap; "{word} {name}")?.as_str())?;
-        Ok(place.saturating_add(1))
-    }
-
-    // Is the number that begins here made of two?
-    fn is_compound(&self, place: usize) -> bool {
+    // Is the number that comes next made of two?
+    fn is_compound(&self) -> bool {
         matches!(
-            NumberOperator::at(self.bytes, place),
+            NumberOperator::at(self.bytes, 0),
             Some(NumberOperator::Sum | NumberOperator::Difference)
         )
     }
 
-    // The right operand of a sum or difference, in parentheses where it is one itself.
-    #[cycle(add_number_add_right_number)]
-    fn add_right_number(
-        &self,
-        text: &mut String,
-        levels: u8,
-        place: usize,
-    ) -> Result<usize, AllocError> {
-        let compound = self.is_compound(place);
-        if compound {
-            text.push_str("(")?;
+    // A sum or difference: the right operand stands in parentheses where it is one itself.
+    #[cycle(numbers)]
+    fn add_two(&mut self, text: &mut String, sign: &str, levels: u8) -> Result<(), AllocError> {
+        self.add_number_of(text, levels)?;
+        text.push_str(sign)?;
+        if !self.is_compound() {
+            return self.add_number_of(text, levels);
         }
-        let end = self.add_number(text, levels, place)?;
-        if compound {
-            text.push_str(")")?;
-        }
-        Ok(end)
+        text.push_str("(")?;
+        self.add_number_of(text, levels)?;
+        text.push_str(")")
     }
 
-    // Adds the number that begins here, and tells the place after it.
-    #[cycle(add_number_add_right_number)]
-    fn add_number(&self, text: &mut String, levels: u8, place: usize) -> Result<usize, AllocError> {
+    // Adds the number that comes next.
+    #[cycle(numbers)]
+    fn add_number_of(&mut self, text: &mut String, levels: u8) -> Result<(), AllocError> {
         if levels == 0 {
-            return Ok(place);
+            return Ok(());
         }
-        let Some(operator) = NumberOperator::at(self.bytes, place) else {
-            return Ok(place);
+        let Some(operator) = NumberOperator::at(self.bytes, 0) else {
+            return Ok(());
         };
-        let first = place.saturating_add(1);
+        self.next();
         match operator {
-            NumberOperator::Constant => self.add_constant(text, first),
-            NumberOperator::OldValue => self.add_name(text, "old", first),
-            NumberOperator::NewValue => self.add_name(text, "new", first),
-            NumberOperator::Sum => {
-                let second = self.add_number(text, levels - 1, first)?;
-                text.push_str(" + ")?;
-                self.add_right_number(text, levels - 1, second)
-            }
-            NumberOperator::Difference => {
-                let second = self.add_number(text, levels - 1, first)?;
-                text.push_str(" - ")?;
-                self.add_right_number(text, levels - 1, second)
-            }
+            NumberOperator::Constant => write!(text, "{}", self.next()),
+            NumberOperator::OldValue => write!(text, "old {}", self.next_name()),
+            NumberOperator::NewValue => write!(text, "new {}", self.next_name()),
+            NumberOperator::Sum => self.add_two(text, " + ", levels - 1),
+            NumberOperator::Difference => self.add_two(text, " - ", levels - 1),
         }
     }
 
     // Two numbers and what stands between them.
     fn add_comparison(
-        &self,
+        &mut self,
         text: &mut String,
         sign: &str,
         levels: u8,
-        place: usize,
-    ) -> Result<usize, AllocError> {
-        let second = self.add_number(text, levels, place)?;
+    ) -> Result<(), AllocError> {
+        self.add_number_of(text, levels)?;
         text.push_str(sign)?;
-        self.add_number(text, levels, second)
+        self.add_number_of(text, levels)
     }
 
-    // Does the truth that begins here want parentheses as an operand of this one?
-    fn wants_parentheses(&self, outer: TruthOperator, place: usize) -> bool {
+    // Does the truth that comes next want parentheses as an operand of this one?
+    fn wants_parentheses(&self, outer: TruthOperator) -> bool {
         matches!(
-            (outer, TruthOperator::at(self.bytes, place)),
+            (outer, TruthOperator::at(self.bytes, 0)),
             (TruthOperator::And, Some(TruthOperator::Or))
                 | (TruthOperator::Or, Some(TruthOperator::And))
                 | (
@@ -118,68 +99,63 @@ impl Written<'_> {
         )
     }
 
-    #[cycle(add_operand_add_truth)]
+    #[cycle(truths)]
     fn add_operand(
-        &self,
+        &mut self,
         text: &mut String,
         outer: TruthOperator,
         levels: u8,
-        place: usize,
-    ) -> Result<usize, AllocError> {
-        let parted = self.wants_parentheses(outer, place);
-        if parted {
-            text.push_str("(")?;
+    ) -> Result<(), AllocError> {
+        if !self.wants_parentheses(outer) {
+            return self.add_truth_of(text, levels);
         }
-        let end = self.add_truth(text, levels, place)?;
-        if parted {
-            text.push_str(")")?;
-        }
-        Ok(end)
+        text.push_str("(")?;
+        self.add_truth_of(text, levels)?;
+        text.push_str(")")
     }
 
-    // Adds the truth that begins here, and tells the place after it.
-    #[cycle(add_operand_add_truth)]
-    fn add_truth(&self, text: &mut String, levels: u8, place: usize) -> Result<usize, AllocError> {
+    // Two truths and the word between them, which is that of the operator.
+    #[cycle(truths)]
+    fn add_both(
+        &mut self,
+        text: &mut String,
+        operator: TruthOperator,
+        word: &str,
+        levels: u8,
+    ) -> Result<(), AllocError> {
+        self.add_operand(text, operator, levels)?;
+        text.push_str(word)?;
+        self.add_operand(text, operator, levels)
+    }
+
+    // Adds the truth that comes next.
+    #[cycle(truths)]
+    fn add_truth_of(&mut self, text: &mut String, levels: u8) -> Result<(), AllocError> {
         if levels == 0 {
-            return Ok(place);
+            return Ok(());
         }
-        let Some(operator) = TruthOperator::at(self.bytes, place) else {
-            return Ok(place);
+        let Some(operator) = TruthOperator::at(self.bytes, 0) else {
+            return Ok(());
         };
-        let first = place.saturating_add(1);
+        self.next();
         match operator {
-            TruthOperator::Equal => self.add_comparison(text, " = ", levels - 1, first),
-            TruthOperator::Less => self.add_comparison(text, " < ", levels - 1, first),
+            TruthOperator::Equal => self.add_comparison(text, " = ", levels - 1),
+            TruthOperator::Less => self.add_comparison(text, " < ", levels - 1),
             TruthOperator::Not => {
                 text.push_str("not ")?;
-                self.add_operand(text, operator, levels - 1, first)
+                self.add_operand(text, operator, levels - 1)
             }
-            TruthOperator::And => {
-                let second = self.add_operand(text, operator, levels - 1, first)?;
-                text.push_str(" and ")?;
-                self.add_operand(text, operator, levels - 1, second)
-            }
-            TruthOperator::Or => {
-                let second = self.add_operand(text, operator, levels - 1, first)?;
-                text.push_str(" or ")?;
-                self.add_operand(text, operator, levels - 1, second)
-            }
-            TruthOperator::True => {
-                text.push_str("true")?;
-                Ok(first)
-            }
+            TruthOperator::And => self.add_both(text, operator, " and ", levels - 1),
+            TruthOperator::Or => self.add_both(text, operator, " or ", levels - 1),
+            TruthOperator::True => text.push_str("true"),
         }
     }
 
-    pub fn number_text(&self) -> Result<String, AllocError> {
-        let mut text = String::new(self.heap);
-        let _ = self.add_number(&mut text, LEVELS, 0)?;
-        Ok(text)
+    pub fn add_number(mut self, text: &mut String) -> Result<(), AllocError> {
+        self.add_number_of(text, LEVELS)
     }
 
-    pub fn truth_text(&self) -> Result<String, AllocError> {
-        let mut text = String::new(self.heap);
-        let _ = self.add_truth(&mut text, LEVELS, 0)?;
-        Ok(text)
+    pub fn add_truth(mut self, text: &mut String) -> Result<(), AllocError> {
+        self.add_truth_of(text, LEVELS)
     }
 }

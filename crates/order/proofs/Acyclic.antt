@@ -1,5 +1,5 @@
 -- Where no atom awaits itself, placing them one after the other never gets stuck. Assumes nothing.
-use Rattle.std.proofs.Common.{◌≡◌, ℕ, ◌<◌, Bool, true, false, not, ◌⊎◌, List, [], ◌∷◌, sym, refl, ap, ◌∙◌, subst, inl, inr, ⊎_elim, arith}
+use Rattle.std.proofs.Common.{◌≡◌, ℕ, ◌<◌, min, Bool, true, false, not, ◌⊎◌, List, [], ◌∷◌, sym, refl, ap, ◌∙◌, subst, inl, inr, ⊎_elim, arith}
 use Rattle.std.proofs.lemmas.Bool.{and_parts, and_from, both_ways, cases_Bool, not-true, not_from_false}
 use Rattle.model.specs.Meanings.{Meaning, OutlineFacts}
 use Rattle.model.specs.Tests.{some}
@@ -52,10 +52,12 @@ module _ (m : Meaning) (clear : NoneCircular m.outline) (awaits : ℕ → ℕ �
 
 -- a table that is right on the atoms
 pub ordered_by : (m : Meaning) (o : OutlineFacts) → m.outline ≡ o → (awaits : ℕ → ℕ → Bool) → ((a b : ℕ) → a < 16 → b < 16 → awaits a b ≡ awaits_atom o a b) →
-    (n : ℕ) → n ≡ o.atoms → (order : List ℕ) → (NeverStuck awaits n → InOrder awaits n order) → NoneCircular m.outline → AtomsInOrder m.outline order
+    (n : ℕ) → n ≡ min o.atoms 16 → (order : List ℕ) → (NeverStuck awaits n → InOrder awaits n order) → NoneCircular m.outline → AtomsInOrder m.outline order
 ordered_by m o e awaits right n count order made clear =
+    let few = m.outline_laws.few_atoms in
     let agree : (a b : ℕ) → a < m.outline.atoms → b < m.outline.atoms → awaits a b ≡ awaits_atom m.outline a b =
-    λ a b l k. let few = m.outline_laws.few_atoms in right a b (omega arith) (omega arith) ∙ sym (ap (λ (p : OutlineFacts). awaits_atom p a b) e)
+    λ a b l k. right a b (omega arith) (omega arith) ∙ sym (ap (λ (p : OutlineFacts). awaits_atom p a b) e)
     in
-    let all : n ≡ m.outline.atoms = count ∙ sym (ap (λ (p : OutlineFacts). p.atoms) e) in
+    let same : m.outline.atoms ≡ o.atoms = ap (λ (p : OutlineFacts). p.atoms) e in
+    let all : n ≡ m.outline.atoms = omega arith in
     in_order m clear awaits agree order (subst (λ k. NeverStuck awaits k → InOrder awaits k order) all made (never_stuck m clear awaits agree))

@@ -1,4 +1,1 @@
-pub mod Joins
 pub mod Sets
-pub mod Verdicts
-pub mod Wholes

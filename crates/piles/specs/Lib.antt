@@ -1,1 +1,1 @@
-pub mod Whole
+pub mod Rules

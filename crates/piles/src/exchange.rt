@@ -1,36 +1,18 @@
-// The exchange of two names, in a name, in a set of names and in a state.
+// The exchange of two names in a set of names and in a state.
 ghost use Rattle.std.specs.Prelude.{◌≡◌, ℕ, ◌<◌};
 ghost use Rattle.composition.specs.Acts.{seen_below};
 ghost use Rattle.model.specs.Exchange.{exchange};
 ghost use Rattle.model.specs.Sets.{has};
 ghost use Rattle.model.specs.States.{value};
 
-use model::{Names, State};
-
-pub fn exchanged(one: u8, other: u8, name: u8) -> u8
-    ensures { result ≡ exchange one other name }
-{
-    if name == one {
-        other
-    } else if name == other {
-        one
-    } else {
-        name
-    }
-}
+use model::{Names, State, exchanged};
 
 pub fn exchanged_names(one: u8, other: u8, names: Names) -> Names
     requires one { one < 32 }
     requires other { other < 32 }
     ensures { (n : ℕ) → has result n ≡ has names (exchange one other n) }
 {
-    let mut all = Names::none();
-    for name in 0..32 {
-        if names.has(exchanged(one, other, name)) {
-            all = all.with(name);
-        }
-    }
-    all
+    Names::gather(|name| names.has(exchanged(one, other, name)))
 }
 
 pub fn exchanged_state(one: u8, other: u8, state: State) -> State

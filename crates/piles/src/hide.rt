@@ -1,7 +1,7 @@
 // A drawing with one of its interface names made private.
+ghost use Rattle.composition.specs.Faults.{fault_of_hidden};
 ghost use Rattle.composition.specs.Meanings.{hidden};
 ghost use Rattle.composition.specs.Outlines.{hidden_outline};
-ghost use Rattle.piles.specs.Whole.{WholeHide};
 ghost use Rattle.std.specs.Prelude.{◌≡◌};
 ghost use Rattle.std.proofs.Common.{rules};
 
@@ -11,19 +11,18 @@ use model::{Fault, Kind, Names, Round, State};
 
 // The fault is kept as it was when the name was hidden.
 #[derive(Drop)]
-pub struct Hide<D> {
+pub struct Hide<D: Outline> {
     below: D,
     name: u8,
     fault: Option<Fault>,
+    ghost judged: { fault ≡ fault_of_hidden (D.Outline.outline below) name },
 }
 
 impl<D: Outline> Hide<D> {
     // Hides in any drawing. A fault still makes a drawing, which tells it and has no variables and no atoms.
     pub fn new(below: D, name: u8) -> Hide<D>
-        requires { D.Outline.whole below }
         ensures below { result.below ≡ below }
         ensures name { result.name ≡ name }
-        ensures whole { WholeHide (D.Outline.whole result.below) (D.Outline.outline result.below) result.name result.fault }
     {
         let fault = hide_fault(&below, name);
         Hide { below, name, fault }
@@ -32,8 +31,6 @@ impl<D: Outline> Hide<D> {
 
 impl<D: Outline> Outline for Hide<D> {
     ghost outline = { λ p. hidden_outline (D.Outline.outline p.below) p.name };
-
-    ghost whole = { λ p. WholeHide (D.Outline.whole p.below) (D.Outline.outline p.below) p.name p.fault };
 
     fn fault(&self) -> Option<Fault> {
         self.fault

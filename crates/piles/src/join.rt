@@ -1,7 +1,7 @@
 // Two drawings side by side, which share the names that both have. Atoms of the left part come first.
+ghost use Rattle.composition.specs.Faults.{fault_of_joined};
 ghost use Rattle.composition.specs.Meanings.{joined};
 ghost use Rattle.composition.specs.Outlines.{joined_kind, joined_outline};
-ghost use Rattle.piles.specs.Whole.{WholeJoin};
 ghost use Rattle.std.specs.Prelude.{◌≡◌};
 ghost use Rattle.std.proofs.Common.{rules};
 
@@ -11,21 +11,20 @@ use model::{Fault, Kind, Names, Round, State};
 
 // The fault, and how many atoms the left part has, are kept as they were when the join was made.
 #[derive(Drop)]
-pub struct Join<L, R> {
+pub struct Join<L: Outline, R: Outline> {
     left: L,
     right: R,
     fault: Option<Fault>,
     left_atoms: u8,
+    ghost judged: { fault ≡ fault_of_joined (L.Outline.outline left) (R.Outline.outline right) },
+    ghost counted: { left_atoms ≡ (L.Outline.outline left).atoms },
 }
 
 impl<L: Outline, R: Outline> Join<L, R> {
     // Joins any two drawings. A fault still makes a drawing, which tells it and has no variables and no atoms.
     pub fn new(left: L, right: R) -> Join<L, R>
-        requires left { L.Outline.whole left }
-        requires right { R.Outline.whole right }
         ensures left { result.left ≡ left }
         ensures right { result.right ≡ right }
-        ensures whole { WholeJoin (L.Outline.whole result.left) (R.Outline.whole result.right) (L.Outline.outline result.left) (R.Outline.outline result.right) result.fault result.left_atoms }
     {
         let fault = join_fault(&left, &right);
         let left_atoms = left.atoms();
@@ -50,8 +49,6 @@ pub fn joined_kind(left: Option<Kind>, right: Option<Kind>) -> Option<Kind>
 
 impl<L: Outline, R: Outline> Outline for Join<L, R> {
     ghost outline = { λ j. joined_outline (L.Outline.outline j.left) (R.Outline.outline j.right) };
-
-    ghost whole = { λ j. WholeJoin (L.Outline.whole j.left) (R.Outline.whole j.right) (L.Outline.outline j.left) (R.Outline.outline j.right) j.fault j.left_atoms };
 
     fn fault(&self) -> Option<Fault> {
         self.fault

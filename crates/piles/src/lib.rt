@@ -7,9 +7,11 @@ mod faults;
 mod hide;
 mod join;
 mod rename;
+mod rules;
 
-pub use exchange::{exchanged, exchanged_names, exchanged_state};
+pub use exchange::{exchanged_names, exchanged_state};
 pub use faults::{hide_fault, join_fault, rename_fault, told};
 pub use hide::Hide;
 pub use join::{Join, joined_kind};
+pub use model::exchanged;
 pub use rename::Rename;

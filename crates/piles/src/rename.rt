@@ -1,32 +1,33 @@
 // A drawing with a new name for one of its variables.
+ghost use Rattle.composition.specs.Faults.{fault_of_renamed};
 ghost use Rattle.composition.specs.Meanings.{renamed};
 ghost use Rattle.composition.specs.Outlines.{renamed_outline};
-ghost use Rattle.piles.specs.Whole.{WholeRename};
-ghost use Rattle.std.specs.Prelude.{◌≡◌};
+ghost use Rattle.std.specs.Prelude.{◌≡◌, ◌<◌, None};
 ghost use Rattle.std.proofs.Common.{rules};
 
-use crate::exchange::{exchanged, exchanged_names, exchanged_state};
+use crate::exchange::{exchanged_names, exchanged_state};
 use crate::faults::{rename_fault, told};
 use drawing::{Drawing, Outline};
-use model::{Fault, Kind, Names, Round, State};
+use model::{Fault, Kind, Names, Round, State, exchanged};
 
 // The fault is kept as it was when the rename was made.
 #[derive(Drop)]
-pub struct Rename<D> {
+pub struct Rename<D: Outline> {
     below: D,
     old: u8,
     new: u8,
     fault: Option<Fault>,
+    ghost judged: { fault ≡ fault_of_renamed (D.Outline.outline below) old new },
+    ghost old_name: { fault ≡ None → old < 32 },
+    ghost new_name: { fault ≡ None → new < 32 },
 }
 
 impl<D: Drawing> Rename<D> {
     // Renames in any drawing. A fault still makes a drawing, which tells it and has no variables and no atoms.
     pub fn new(below: D, old: u8, new: u8) -> Rename<D>
-        requires { D.Outline.whole below }
         ensures below { result.below ≡ below }
         ensures old { result.old ≡ old }
         ensures new { result.new ≡ new }
-        ensures whole { WholeRename (D.Outline.whole result.below) (D.Outline.outline result.below) result.old result.new result.fault }
     {
         let fault = rename_fault(&below, old, new);
         Rename {
@@ -40,8 +41,6 @@ impl<D: Drawing> Rename<D> {
 
 impl<D: Outline> Outline for Rename<D> {
     ghost outline = { λ p. renamed_outline (D.Outline.outline p.below) p.old p.new };
-
-    ghost whole = { λ p. WholeRename (D.Outline.whole p.below) (D.Outline.outline p.below) p.old p.new p.fault };
 
     fn fault(&self) -> Option<Fault> {
         self.fault

@@ -27,18 +27,13 @@ pub fn faulty() -> GateList {
 // A list of NOT gates from name 31 to names 0 up to 14.
 pub fn fifteen() -> GateList {
     let mut bytes = [255; 75];
-    for out in 0..15u8 {
-        let first = 5 * out as usize;
-        bytes[first] = 0;
-        bytes[first + 1] = 31;
-        bytes[first + 3] = out;
+    for (out, record) in (0..15u8).zip(bytes.chunks_exact_mut(5)) {
+        record.copy_from_slice(&[0, 31, 255, out, 255]);
     }
     GateList::open(&bytes)
 }
 
-pub fn has_fault<D: Outline>(drawing: &D, number: u8, layer: u8, place: u16) -> bool
-    requires { D.Outline.whole drawing.now }
-{
+pub fn has_fault<D: Outline>(drawing: &D, number: u8, layer: u8, place: u16) -> bool {
     drawing.fault()
         == Some(Fault {
             number,
@@ -54,10 +49,7 @@ pub fn join_has_fault<L: Outline, R: Outline>(
     number: u8,
     layer: u8,
     place: u16,
-) -> bool
-    requires left { L.Outline.whole left.now }
-    requires right { R.Outline.whole right.now }
-{
+) -> bool {
     join_fault(left, right)
         == Some(Fault {
             number,
@@ -67,42 +59,24 @@ pub fn join_has_fault<L: Outline, R: Outline>(
 }
 
 // Is nothing wrong, and is the drawing piled of so many layers with so many atoms?
-pub fn is_sound<D: Outline>(drawing: &D, layers: u8, atoms: u8) -> bool
-    requires { D.Outline.whole drawing.now }
-{
+pub fn is_sound<D: Outline>(drawing: &D, layers: u8, atoms: u8) -> bool {
     drawing.fault().is_none() && drawing.layers() == layers && drawing.atoms() == atoms
 }
 
 // Has the drawing no variables and no atoms?
-pub fn is_empty<D: Outline>(drawing: &D) -> bool
-    requires { D.Outline.whole drawing.now }
-{
-    for name in 0..=255u8 {
-        if drawing.kind(name).is_some() || drawing.top(name) != 0 {
-            return false;
-        }
-    }
+pub fn is_empty<D: Outline>(drawing: &D) -> bool {
     drawing.atoms() == 0
+        && (0..=255u8).all(|name| drawing.kind(name).is_none() && drawing.top(name) == 0)
 }
 
 // Are these the kinds of names 0 to 3?
-pub fn has_kinds<D: Outline>(drawing: &D, kinds: [Option<Kind>; 4]) -> bool
-    requires { D.Outline.whole drawing.now }
-{
-    for name in 0..4u8 {
-        if drawing.kind(name) != kinds[name as usize] {
-            return false;
-        }
-    }
-    true
+pub fn has_kinds<D: Outline>(drawing: &D, kinds: [Option<Kind>; 4]) -> bool {
+    (0..4u8)
+        .zip(kinds)
+        .all(|(name, kind)| drawing.kind(name) == kind)
 }
 
 // Are these names in the set, and no others?
 pub fn is_just(set: Names, names: &[u8]) -> bool {
-    for name in 0..=255u8 {
-        if set.has(name) != names.contains(&name) {
-            return false;
-        }
-    }
-    true
+    (0..=255u8).all(|name| set.has(name) == names.contains(&name))
 }

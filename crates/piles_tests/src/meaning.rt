@@ -84,9 +84,7 @@ fn choices_through_renames(rt: HostRuntime) {
 }
 
 // Is there a NOT, then a latch that stores under name 4 and shows under name 6, and no more?
-fn shows_stored_bit<D: Drawing>(drawing: &D) -> bool
-    requires { D.Outline.whole drawing.now }
-{
+fn shows_stored_bit<D: Drawing>(drawing: &D) -> bool {
     let mut old = [0; 32];
     old[4] = 1;
     drawing.atoms() == 3

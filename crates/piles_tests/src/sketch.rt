@@ -1,7 +1,7 @@
 // An outline that is no drawing, to join what gate lists cannot show: other tops, many layers,
 // and atoms that are in nobody's way.
 ghost use Rattle.model.specs.declared.Kind.TheVariants.{External};
-ghost use Rattle.std.specs.Prelude.{false, ◌||◌, if◌then◌else◌, Some, None, ◌==◌, nat_eq};
+ghost use Rattle.std.specs.Prelude.{◌≡◌, false, ◌||◌, if◌then◌else◌, Some, None, ◌==◌, nat_eq};
 
 use drawing::Outline;
 use model::{Fault, Kind, Names};
@@ -16,6 +16,14 @@ pub struct Sketch {
     pub atoms: u8,
 }
 
+impl Sketch {
+    fn shows(&self, name: u8) -> bool
+        ensures { result ≡ (nat_eq name self.now.names.0 || name == self.now.names.1) }
+    {
+        name == self.names.0 || name == self.names.1
+    }
+}
+
 impl Outline for Sketch {
     ghost outline = { λ s. record { fault = s.fault; layers = s.layers; kind = λ n. (if nat_eq n s.names.0 || n == s.names.1 then Some External else None); top = λ n. (if nat_eq n s.names.0 || n == s.names.1 then s.top else 0); atoms = s.atoms; controls = λ a n. false; reads = λ a n. false; awaits = λ a n. false } };
 
@@ -28,19 +36,11 @@ impl Outline for Sketch {
     }
 
     fn kind(&self, name: u8) -> Option<Kind> {
-        if name == self.names.0 || name == self.names.1 {
-            Some(Kind::External)
-        } else {
-            None
-        }
+        self.shows(name).then_some(Kind::External)
     }
 
     fn top(&self, name: u8) -> u8 {
-        if name == self.names.0 || name == self.names.1 {
-            self.top
-        } else {
-            0
-        }
+        if self.shows(name) { self.top } else { 0 }
     }
 
     fn atoms(&self) -> u8 {

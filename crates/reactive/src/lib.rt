@@ -1,78 +1,54 @@
-// Reactive modules, and how the modules of drawings answer to their definition. Each function answers 0 and stands for a
+// Reactive modules, and how the modules of drawings answer to their definition. Each function does nothing and stands for a
 // theorem, its contract, so that no check passes without the theorem's proof.
 #![tactic(auto)]
 
 ghost use Rattle.reactive.specs.Statements.{FitExactlyWhenAModuleWithinLimits, StatesAreThePublishedOnes, JoinsAreCompositions, RenamesAreRenamings, HidesAreHidings, OperationsAreJudgedRightly, FitUnitsHaveAnOrder, FitUnitsCompleteEveryRound, FitUnitsHaveAnInitialState};
 ghost use Rattle.reactive.specs.Piles.{JoinsAreMadeOfParts, RenamesAreMadeOfParts, HidesAreMadeOfParts};
 
-pub fn fit_units_are_modules() -> u8
+pub fn fit_units_are_modules()
     ensures { FitExactlyWhenAModuleWithinLimits }
-{
-    0
-}
+{}
 
-pub fn states_are_the_published_ones() -> u8
+pub fn states_are_the_published_ones()
     ensures { StatesAreThePublishedOnes }
-{
-    0
-}
+{}
 
-pub fn joins_are_compositions() -> u8
+pub fn joins_are_compositions()
     ensures { JoinsAreCompositions }
-{
-    0
-}
+{}
 
-pub fn renames_are_renamings() -> u8
+pub fn renames_are_renamings()
     ensures { RenamesAreRenamings }
-{
-    0
-}
+{}
 
-pub fn hides_are_hidings() -> u8
+pub fn hides_are_hidings()
     ensures { HidesAreHidings }
-{
-    0
-}
+{}
 
-pub fn operations_are_judged_rightly() -> u8
+pub fn operations_are_judged_rightly()
     ensures { OperationsAreJudgedRightly }
-{
-    0
-}
+{}
 
-pub fn fit_units_have_an_order() -> u8
+pub fn fit_units_have_an_order()
     ensures { FitUnitsHaveAnOrder }
-{
-    0
-}
+{}
 
-pub fn fit_units_complete_every_round() -> u8
+pub fn fit_units_complete_every_round()
     ensures { FitUnitsCompleteEveryRound }
-{
-    0
-}
+{}
 
-pub fn fit_units_have_an_initial_state() -> u8
+pub fn fit_units_have_an_initial_state()
     ensures { FitUnitsHaveAnInitialState }
-{
-    0
-}
+{}
 
-pub fn joins_are_made_of_parts() -> u8
+pub fn joins_are_made_of_parts()
     ensures { JoinsAreMadeOfParts }
-{
-    0
-}
+{}
 
-pub fn renames_are_made_of_parts() -> u8
+pub fn renames_are_made_of_parts()
     ensures { RenamesAreMadeOfParts }
-{
-    0
-}
+{}
 
-pub fn hides_are_made_of_parts() -> u8
+pub fn hides_are_made_of_parts()
     ensures { HidesAreMadeOfParts }
-{
-    0
-}
+{}

@@ -6,6 +6,4 @@ mod answers;
 #[cfg(test)]
 mod hex;
 #[cfg(test)]
-mod running;
-#[cfg(test)]
 mod wrong_lines;

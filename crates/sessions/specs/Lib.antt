@@ -1,2 +1,3 @@
+pub mod GateLists
 pub mod Sessions
 pub mod Things

@@ -1,7 +1,6 @@
 // The script language: a session runs a script line by line.
 #![tactic(auto)]
 
-mod drawn;
 mod made;
 mod sealed;
 mod session;

@@ -1,38 +1,55 @@
 // What a name of a script can stand for.
-use crate::drawn::Drawn;
 use crate::sealed::Sealed;
+use any_drawing::{AnyDrawing, Tree};
+use drawing::Outline;
 use std::alloc::{AllocError, Global};
-use wording::{Question, opening_text};
+use wording::{Question, ask_text, opening_text, outline_text, verdict_text};
 
 // A unit is boxed, since it is much larger than a drawing.
 #[derive(Drop)]
 pub enum Made {
-    Drawing(Drawn),
+    Drawing(AnyDrawing),
     SealedUnit(Box<Sealed>),
+}
+
+// What the drawing is, in a word or two.
+fn what(drawing: &AnyDrawing) -> &'static str {
+    match drawing.tree() {
+        Tree::Table(_) => "table",
+        Tree::Gates(_) => "gate list",
+        Tree::Join { .. } => "join",
+        Tree::Rename { .. } => "renamed drawing",
+        Tree::Hide { .. } => "drawing with a hidden name",
+    }
 }
 
 impl Made {
     // What is answered when it is made under this name.
     pub fn opening(&self, heap: Global, name: &str) -> Result<String, AllocError> {
         match self {
-            Made::Drawing(drawn) => opening_text(heap, name, drawn.what(), drawn.fault()),
-            Made::SealedUnit(sealed) => sealed.verdict_text(heap, name),
+            Made::Drawing(drawing) => opening_text(heap, name, what(drawing), drawing.fault()),
+            Made::SealedUnit(sealed) => verdict_text(
+                heap,
+                name,
+                sealed.unit.drawing(),
+                sealed.unit.fault(),
+            ),
         }
     }
 
     // What is answered to `outline`: of a unit, the outline of its drawing.
     pub fn outline(&self, heap: Global) -> Result<String, AllocError> {
         match self {
-            Made::Drawing(drawn) => drawn.outline(heap),
-            Made::SealedUnit(sealed) => sealed.outline(heap),
+            Made::Drawing(drawing) => outline_text(heap, drawing),
+            Made::SealedUnit(sealed) => outline_text(heap, sealed.unit.drawing()),
         }
     }
 
     // What is answered to `ask`: of a unit, after a choice of its drawing.
     pub fn ask(&self, heap: Global, question: &Question) -> Result<String, AllocError> {
         match self {
-            Made::Drawing(drawn) => drawn.ask(heap, question),
-            Made::SealedUnit(sealed) => sealed.ask(heap, question),
+            Made::Drawing(drawing) => ask_text(heap, drawing, question),
+            Made::SealedUnit(sealed) => ask_text(heap, sealed.unit.drawing(), question),
         }
     }
 }

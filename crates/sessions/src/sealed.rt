@@ -1,15 +1,8 @@
-// A unit that a script has sealed, with what it keeps from the call that made it on.
-ghost use Rattle.any_drawing.specs.Meaning.{any_meaning};
-ghost use Rattle.any_drawing.specs.Whole.{Whole};
-ghost use Rattle.unit.specs.Kept.{WholeUnit};
-
+// A unit that a script has sealed. It is a struct of its own so that definitions can name it.
 use any_drawing::AnyDrawing;
 use unit::Unit;
 
-mod methods;
-
 #[derive(Drop)]
 pub struct Sealed {
-    unit: Unit<AnyDrawing>,
-    ghost whole: { ∥ WholeUnit (Whole unit.drawing) (any_meaning unit.drawing) unit.core ∥₁ },
+    pub unit: Unit<AnyDrawing>,
 }

@@ -1,14 +1,6 @@
 // Byte strings at the edges of what a hex digit is.
 use commands::{Mistake, bytes_of_hex};
-use std::alloc::Global;
 use std::test::Fail;
-
-fn refusal(heap: Global, text: &str) -> Option<Mistake> {
-    match bytes_of_hex(heap, text) {
-        Ok(_) => None,
-        Err(mistake) => Some(mistake),
-    }
-}
 
 #[test]
 fn digits_of_both_cases(rt: HostRuntime) -> Result<(), Fail> {
@@ -22,7 +14,7 @@ fn digits_of_both_cases(rt: HostRuntime) -> Result<(), Fail> {
 fn strange_digits(rt: HostRuntime) {
     for text in ["/0", "0:", "@0", "0G", "`0", "0g", "é", "0x"] {
         assert_eq!(rt;
-            refusal(rt.alloc(), text),
+            bytes_of_hex(rt.alloc(), text).err(),
             Some(Mistake::BadHex),
             "{}",
             text
@@ -30,7 +22,7 @@ fn strange_digits(rt: HostRuntime) {
     }
     for text in ["0", "xyz", "000"] {
         assert_eq!(rt;
-            refusal(rt.alloc(), text),
+            bytes_of_hex(rt.alloc(), text).err(),
             Some(Mistake::OddHex),
             "{}",
             text

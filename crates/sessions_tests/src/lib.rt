@@ -8,6 +8,4 @@ mod hex;
 #[cfg(test)]
 mod piling;
 #[cfg(test)]
-mod running;
-#[cfg(test)]
 mod wrong_lines;

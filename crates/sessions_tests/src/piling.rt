@@ -1,7 +1,8 @@
 // Drawings that are opened, piled and sealed, line by line.
 ghost use Rattle.std.specs.Prelude.{◌<◌};
 
-use crate::running::answer;
+use commands::Vocabulary;
+use script_lines::answer;
 use sessions::Session;
 use std::alloc::{AllocError, Global};
 use std::process::Abort;
@@ -11,7 +12,7 @@ use std::test::Fail;
 const TOGGLE: &str = "table t 0100010101000000010000000100000000010101150200000115050400010100";
 
 fn check_answers(rt: &impl Abort, heap: Global, lines: &[(&str, &str)]) -> Result<(), Fail> {
-    let mut session = Session::new(heap);
+    let mut session = Session::new(heap, Vocabulary::Everything);
     for (line, text) in lines {
         assert_eq!(rt;
             answer(heap, &mut session, line)?.as_str(),
@@ -122,7 +123,7 @@ fn piles_and_their_verdicts(rt: HostRuntime) -> Result<(), Fail> {
 #[test]
 fn infix_notation(rt: HostRuntime) -> Result<(), Fail> {
     let heap = rt.alloc();
-    let mut session = Session::new(heap);
+    let mut session = Session::new(heap, Vocabulary::Everything);
     let table =
         "table t 020001030202030100000001000000010000000401030115020000111314100100000010010000011101000202080401000401000202091213110100000312150803040100000100010C141315121001000202141515080300000301000000";
     let _ = answer(heap, &mut session, table)?;
@@ -158,7 +159,7 @@ fn follower(heap: Global, k: u32) -> Result<String, AllocError>
 #[test]
 fn a_crowded_junction(rt: HostRuntime) -> Result<(), Fail> {
     let heap = rt.alloc();
-    let mut session = Session::new(heap);
+    let mut session = Session::new(heap, Vocabulary::Everything);
     let _ = answer(heap, &mut session, "gates j -")?;
     for k in 1..15u32 {
         let opened = answer(heap, &mut session, follower(heap, k)?.as_str())?;
@@ -175,7 +176,7 @@ fn a_crowded_junction(rt: HostRuntime) -> Result<(), Fail> {
 #[test]
 fn a_scattered_towpath(rt: HostRuntime) -> Result<(), Fail> {
     let heap = rt.alloc();
-    let mut session = Session::new(heap);
+    let mut session = Session::new(heap, Vocabulary::Everything);
     let _ = answer(heap, &mut session, "gates w -")?;
     for k in 0..16u32 {
         let opened = answer(

@@ -1,6 +1,7 @@
 -- Tests and answers at all numbers below a bound. Assumes nothing.
-use Rattle.std.proofs.Common.{◌≡◌, ℕ, zero, suc, ◌+◌, ◌<◌, Bool, true, false, ◌||◌, ◌⊎◌, is_some, Some, None, Option, sym, refl, ap, ◌∙◌, subst, ap₂, inl, inr, not-suc-le-zero, add-one, arith}
+use Rattle.std.proofs.Common.{◌≡◌, ℕ, zero, suc, ◌+◌, ◌<◌, Bool, true, false, cond, ◌||◌, ◌⊎◌, is_some, Some, None, Option, sym, refl, ap, ◌∙◌, subst, ap₂, inl, inr, not-suc-le-zero, add-one, arith}
 use Rattle.std.proofs.lemmas.Bool.{cases_eq, true≢false}
+use Rattle.std.specs.Bool.{then_some}
 use Rattle.std.specs.Option.{option_or}
 use Rattle.model.specs.Tests.{some}
 use Rattle.sights.specs.Seen.{first_below}
@@ -60,6 +61,6 @@ module _ {X : Type 0} where
         go (inl e) g = subst (λ m. option_or (first_below f m) (f m) ≡ f i) e (ap (λ o. option_or o (f i)) l)
         go (inr e) g = ap (λ o. option_or o (f n)) (g (omega arith)) ∙ some_other (f i) (f n) k
 
-pub none_from : {X : Type 0} (a : Option X) → is_some a ≡ false → a ≡ None
-none_from None h = refl
-none_from (Some x) h = absurd (true≢false h)
+pub then_some_hit : {X : Type 0} (b : Bool) (x : X) → then_some b x ≡ cond b (Some x) None
+then_some_hit true x = refl
+then_some_hit false x = refl

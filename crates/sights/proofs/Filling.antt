@@ -12,7 +12,7 @@ use Rattle.units.specs.Sealing.{old_names}
 use Rattle.sights.specs.Seen.{put_old, put_new, put, value_at, top_if, top_at, first_below, fills, fills_with, BlankFrom}
 use Rattle.sights.specs.Sights.{sight_at, finds}
 use Rattle.sights.specs.declared.sight.Sight.{Sight}
-use Rattle.sights.proofs.Bounds.{other_assoc, other_none, first_same, first_first, first_one, first_at}
+use Rattle.sights.proofs.Bounds.{other_assoc, other_none, first_same, first_first, first_more, first_one, first_at}
 
 module _ {X Y : Type 0} where
   pub finds_same : (f g : X → Option Y) → ((x : X) → f x ≡ g x) → (xs : List X) → finds f xs ≡ finds g xs
@@ -187,30 +187,12 @@ module _ (test : Sight → Option Sight) (top : ℕ → ℕ) (s : Sight) where
   pub fills_found : (place v : ℕ) → place < 64 → v < top place + 1 → first_below (fills_with test top place (63 - place) s) v ≡ None → is_some (fills_with test top place (63 - place) s v) ≡ true → fills test top place (64 - place) s ≡ fills_with test top place (63 - place) s v
   fills_found place v low h before e = fills_more place low ∙ first_at (fills_with test top place (63 - place) s) (top place + 1) v h before e
 
+  -- a value that leads to none, after others that do
+  pub fills_passed : (place v : ℕ) (child : Sight) (r : Option Sight) → place < 64 → child ≡ put place s v → r ≡ fills test top (place + 1) (64 - (place + 1)) child → r ≡ None → first_below (fills_with test top place (63 - place) s) v ≡ None → first_below (fills_with test top place (63 - place) s) (v + 1) ≡ None
+  fills_passed place v child r h e is none before = first_more (fills_with test top place (63 - place) s) v before (sym (fills_child place v child h e) ∙ sym is ∙ none)
+
   pub fills_clear : (place v : ℕ) → place < 64 → v ≡ top place + 1 → first_below (fills_with test top place (63 - place) s) v ≡ None → fills test top place (64 - place) s ≡ None
   fills_clear place v low h e = fills_more place low ∙ ap (first_below (fills_with test top place (63 - place) s)) (sym h) ∙ e
-
--- what is put at a place leaves the later ones as they are
-pub blank_more : (place next v : ℕ) (s : Sight) → place ≤ next → BlankFrom place s → BlankFrom (next + 1) (put next s v)
-blank_more place next v s h blank k l low = same ∙ blank k (omega arith) low
-  where
-    other : (xs : List ℕ) (i j : ℕ) → j ≢ i → value (set xs i v) j ≡ value xs j
-    other xs i j ne = get_or-set_other xs i j v 0 ne
-
-    same_old : value (put_old next s.old v) k ≡ value s.old k
-    same_old = let ne : k ≢ next = omega arith in cond_both (ltb next 32) (set s.old next v) s.old (λ r. value r k ≡ value s.old k) (λ _. other s.old next k ne) (λ _. refl)
-
-    same_new : 32 ≤ k → value (put_new next s.new v) (k - 32) ≡ value s.new (k - 32)
-    same_new high =
-        cond_both (ltb next 32) s.new (set s.new (next - 32) v) (λ r. value r (k - 32) ≡ value s.new (k - 32)) (λ _. refl)
-        (λ f. let past : 32 ≤ next = ltb-false next 32 f in let ne : k - 32 ≢ next - 32 = omega arith in other s.new (next - 32) (k - 32) ne)
-
-    same : value_at (put next s v) k ≡ value_at s k
-    same =
-        ⊎_elim
-        (λ t. cond-true (ltb k 32) _ _ t ∙ same_old ∙ sym (cond-true (ltb k 32) _ _ t))
-        (λ f. cond-false (ltb k 32) _ _ f ∙ same_new (ltb-false k 32 f) ∙ sym (cond-false (ltb k 32) _ _ f))
-        (cases_Bool (ltb k 32))
 
 zeros : (n k : ℕ) → value (replicate n 0) k ≡ 0
 zeros zero k = refl

@@ -2,7 +2,7 @@
 use model::{Names, State};
 
 // What is looked for: values at which no choice is open, or at which an open one gives a value out of range.
-#[derive(Clone, Copy)]
+#[derive(Clone, Copy, PartialEq, Eq, Debug)]
 pub enum Test {
     NothingOpen,
     GivesOutside,

@@ -4,7 +4,7 @@ ghost use Rattle.sights.specs.Seen.{put};
 
 use model::{Round, State};
 
-#[derive(Clone, Copy)]
+#[derive(Clone, Copy, PartialEq, Eq, Debug)]
 pub struct Sight {
     pub round: Round,
     pub old: State,

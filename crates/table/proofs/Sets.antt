@@ -1,10 +1,11 @@
--- Two kinds, or two faults, are equal in at most one way. Assumes nothing.
+-- Two variables, or two faults, are equal in at most one way. Assumes nothing.
 use Rattle.std.proofs.Common.{◌≡◌, ℕ, cond, eqb, List, [], ◌∷◌, length, get_or, Some, None, Option, sym, refl, ap, ◌∙◌}
 use mathlib.Core.HLevel.{collapsible→set}
 use base.Stored.{Coded-set, coded_ℕ, coded_list}
 use Rattle.model.specs.declared.Fault.{Fault}
 use Rattle.model.specs.declared.Kind.{Kind}
 use Rattle.model.specs.declared.Kind.TheVariants.{Private, Interface, External}
+use Rattle.layout.specs.declared.variables.Variable.{Variable}
 
 -- so are those of any type whose values a list of numbers tells apart
 told_apart : {A : Type 0} (code : A → List ℕ) (meant : List ℕ → A) → ((x : A) → meant (code x) ≡ x) → IsSet A
@@ -13,24 +14,34 @@ told_apart {A} code meant back = collapsible→set (λ x y p. inj x y (ap code p
     inj : (x y : A) → code x ≡ code y → x ≡ y
     inj x y e = sym (back x) ∙ ap meant e ∙ back y
 
-kind_code : Option Kind → List ℕ
-kind_code None = 0 ∷ []
-kind_code (Some Private) = 1 ∷ []
-kind_code (Some Interface) = 2 ∷ []
-kind_code (Some External) = 3 ∷ []
+kind_code : Kind → ℕ
+kind_code Private = 0
+kind_code Interface = 1
+kind_code External = 2
 
-kind_meant : List ℕ → Option Kind
-kind_meant xs = get_or (None ∷ Some Private ∷ Some Interface ∷ Some External ∷ []) (get_or xs 0 0) None
+kind_meant : ℕ → Kind
+kind_meant n = get_or (Private ∷ Interface ∷ External ∷ []) n Private
 
-kind_back : (k : Option Kind) → kind_meant (kind_code k) ≡ k
+variable_code : Option Variable → List ℕ
+variable_code None = []
+variable_code (Some v) = kind_code v.kind ∷ v.top ∷ []
+
+variable_meant : List ℕ → Option Variable
+variable_meant xs = cond (eqb (length xs) 0) None (Some (record { kind = kind_meant (get_or xs 0 0); top = get_or xs 1 0 }))
+
+kind_back : (k : Kind) → kind_meant (kind_code k) ≡ k
 unfolding kind_code kind_meant
-kind_back None = refl
-kind_back (Some Private) = refl
-kind_back (Some Interface) = refl
-kind_back (Some External) = refl
+kind_back Private = refl
+kind_back Interface = refl
+kind_back External = refl
 
-pub kind_set : IsSet (Option Kind)
-kind_set = told_apart kind_code kind_meant kind_back
+variable_back : (v : Option Variable) → variable_meant (variable_code v) ≡ v
+unfolding variable_code variable_meant
+variable_back None = refl
+variable_back (Some v) = ap (λ k. Some (record { kind = k; top = v.top })) (kind_back v.kind)
+
+pub variable_set : IsSet (Option Variable)
+variable_set = told_apart variable_code variable_meant variable_back
 
 fault_code : Option Fault → List ℕ
 fault_code None = []

@@ -2,6 +2,7 @@
 use Rattle.std.proofs.Common.{◌≡◌, ℕ, zero, suc, ◌+◌, ◌<◌, ◌≤◌, List, [], ◌∷◌, ◌++◌, length, get_or, take, drop, Some, refl, ap, ◌∙◌, subst, le_of_suc-le-suc, not-suc-le-zero, arith}
 use lib.Seq.{take-append_seam}
 use Rattle.std.proofs.lemmas.List.{length-append, length-drop}
+use Rattle.std.proofs.lemmas.Option.{get_or_from_slice_get}
 use Rattle.std.specs.List.{slice_get}
 use Rattle.language.proofs.Bytes.{stands_drop}
 use Rattle.language.specs.ExpressionLaws.{none_some, Stands, byte_is}
@@ -11,11 +12,6 @@ use Rattle.language.specs.Tables.{TableChoice, with_length, fine, and_then, expr
 use Rattle.table.specs.Asked.{ChoiceStands}
 use Rattle.table.specs.Items.{after_item, item_bytes, item_place}
 use Rattle.table.proofs.Walks.{place_next}
-
-pub nth_getD : {X : Type 0} (xs : List X) (i : ℕ) (x d : X) → slice_get xs i ≡ Some x → get_or xs i d ≡ x
-nth_getD [] i x d e = none_some x e
-nth_getD (y ∷ xs) zero x d e = cc
-nth_getD (y ∷ xs) (suc i) x d e = nth_getD xs i x d e
 
 pub nth_there : {X : Type 0} (xs : List X) (i : ℕ) → i < length xs → (x : X) × (slice_get xs i ≡ Some x)
 nth_there [] i h = absurd (not-suc-le-zero h)
@@ -29,11 +25,11 @@ record Item (bs : List ℕ) (k : ℕ) (form : List ℕ) : Type 0 where
 
 -- what stands there with its length is an item
 item_after : (bs : List ℕ) (k : ℕ) (form : List ℕ) → Stands bs k (with_length form) → after_item bs k ≡ k + 1 + length form
-item_after bs k form h = ap (λ n. k + 1 + n) (nth_getD bs k (length form) 0 (byte_is (slice_get bs k) (length form) h.0))
+item_after bs k form h = ap (λ n. k + 1 + n) (get_or_from_slice_get bs k (length form) 0 (byte_is (slice_get bs k) (length form) h.0))
 
 item_stands : (bs : List ℕ) (k : ℕ) (form : List ℕ) → Stands bs k (with_length form) → Item bs k form
 item_stands bs k form h =
-    let size : get_or bs k 0 ≡ length form = nth_getD bs k (length form) 0 (byte_is (slice_get bs k) (length form) h.0) in
+    let size : get_or bs k 0 ≡ length form = get_or_from_slice_get bs k (length form) 0 (byte_is (slice_get bs k) (length form) h.0) in
     let end = k + 1 + length form in
     let all : drop k bs ≡ with_length form ++ drop end bs = stands_drop bs k end (with_length form) h (omega arith) in
     let body : drop (k + 1) bs ≡ form ++ drop end bs = stands_drop bs (k + 1) end form h.1 refl in

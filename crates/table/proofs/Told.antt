@@ -1,13 +1,18 @@
 -- What an opened table tells is what its bytes say. Assumes nothing.
-use Rattle.std.proofs.Common.{◌≡◌, ℕ, zero, suc, ◌+◌, ◌<◌, ◌≤◌, Bool, true, false, cond, List, [], length, get_or, Some, None, Ok, Err, Option, sym, refl, ap, ◌∙◌, subst, arith}
+use Rattle.model.specs.Tests.{count}
+use Rattle.std.proofs.Common.{Bor, ◌≡◌, ℕ, zero, suc, ◌+◌, ◌<◌, ◌≤◌, Bool, true, false, cond, List, [], length, get_or, Some, None, Ok, Err, Option, Result, sym, refl, ap, ◌∙◌, subst, zero-le, arith}
 use mathlib.Core.Logic.{∥∥₁_elim, ∥∥₁_map}
 use native.Mathlib.Bridge.{le_prop}
-use base.Stored.{Coded-set, coded_bool, coded_ℕ, coded_list}
+use base.Stored.{Coded-set, coded_ℕ, coded_list}
 use std.Logic.{∥∥₁_prop}
-use std.HLevel.{Π_prop}
-use Rattle.std.proofs.lemmas.Option.{slice_get_past}
+use Rattle.std.proofs.lemmas.Bool.Decides.{nat_tests}
+use Rattle.std.proofs.lemmas.Option.{slice_get-get_or, slice_get_past}
 use Rattle.std.proofs.lemmas.Bool.{false≢true}
 use Rattle.std.specs.List.{slice_get}
+use Rattle.std.specs.Option.{option_copied}
+use Rattle.std.specs.Result.{result_copied, result_err, result_ok}
+use Rattle.std.specs.Slice.{IsItemAt}
+use Rattle.model.specs.Rows.{listed}
 use Rattle.model.specs.Sets.{has}
 use Rattle.model.specs.declared.names.Names.{Names}
 use Rattle.model.specs.declared.Fault.{Fault}
@@ -15,19 +20,21 @@ use Rattle.model.specs.declared.Round.{Round}
 use Rattle.model.specs.declared.Round.TheVariants.{Initial, Update}
 use Rattle.language.proofs.Steps.{rank_within}
 use Rattle.language.specs.ExpressionLaws.{none_some}
-use Rattle.language.specs.TableLaws.{table_sound, table_meaning}
-use Rattle.language.specs.Tables.{TableAtom, TableChoice, bit, rank, size, variable_at, variable_kind, variable_top, Opened, opened, refused, table_opened, fault_of, syntax_of, table_fault, table_of, no_table, in_set, choices_of, numbers_of, seen_in}
-use Rattle.layout.specs.Laid.{Laid, AtomLaid, ChoicesLaid}
+use Rattle.language.specs.TableLaws.{table_meaning}
+use Rattle.language.specs.Tables.{TableAtom, TableChoice, bit, size, Opened, opened, refused, table_opened, fault_of, syntax_of, table_fault, table_of, in_set, choices_of, numbers_of, seen_in}
+use Rattle.layout.specs.Laid.{Laid, AtomLaid, ChoiceLaid, ChoicesLaid}
+use Rattle.layout.specs.Rows.{Paired}
+use Rattle.layout.specs.Variables.{at}
 use Rattle.layout.specs.declared.parts.AtomLayout.{AtomLayout}
 use Rattle.layout.specs.Read.{Opens, Read}
 use Rattle.layout.specs.declared.parts.Layout.{Layout}
 use Rattle.table.specs.Asked.{AtomFound, ChoiceStands, ChoiceFound, layout_in, controlled}
-use Rattle.table.specs.Kept.{contents, outline_of, atom_of, choice_of, guard_form, number_if, number_for, number_form, number_bytes_of}
+use Rattle.table.specs.Kept.{contents, outline_of, variable_of, atom_of, choice_of, guard_form, number_if, number_for, number_form, number_bytes_of}
 use Rattle.table.specs.Items.{after_item, item_bytes, item_place}
 use Rattle.table.specs.declared.kept.Table.{Table}
 use Rattle.table.proofs.Held.{opened_short}
-use Rattle.table.proofs.Sets.{kind_set, fault_set}
-use Rattle.table.proofs.Standing.{nth_there, choice_stands}
+use Rattle.table.proofs.Sets.{variable_set, fault_set}
+use Rattle.table.proofs.Standing.{choice_stands}
 use Rattle.table.proofs.Walks.{place_none}
 
 -- ---- what was found
@@ -45,72 +52,47 @@ module _ (t : Table) where
   laid : (l : Layout) → Opens (contents t) l → Laid (contents t) (table_of (contents t)) l
   laid l w = subst (λ s. Laid (contents t) s l) (is_table l w) w.laid
 
-  pub atom_rows : (l : Layout) → t.found ≡ Ok l → length l.atoms ≡ 16
-  atom_rows l e = ∥∥₁_elim (whole l e) (Coded-set coded_ℕ _ _) (λ w. w.laid.atom_rows)
-
-  pub atom_count : (l : Layout) → t.found ≡ Ok l → l.count ≡ length (table_of (contents t)).atoms
-  atom_count l e = ∥∥₁_elim (whole l e) (Coded-set coded_ℕ _ _) (λ w. (laid l w).counted)
-
-  pub few_atoms : (l : Layout) → t.found ≡ Ok l → l.count ≤ 16
-  few_atoms l e = let few = (table_sound (contents t)).right.few_atoms in omega (arith, atom_count l e)
-
-  no_fault_table : (f : Fault) → table_fault (contents t) ≡ Some f → table_of (contents t) ≡ no_table
-  no_fault_table f e = go (table_opened (contents t)) e
-    where
-      go : (o : Opened) → fault_of o ≡ Some f → syntax_of o ≡ no_table
-      go (opened s) e = none_some f e
-      go (refused number place) e = refl
-
-  pub atom_there : (l : Layout) → t.found ≡ Ok l → (i : ℕ) → i < l.count → (other : AtomLayout) → ∥ AtomFound (contents t) (atom_of t i) (Some (get_or l.atoms i other)) ∥₁
-  atom_there l e i h other =
-      let at = nth_there (table_of (contents t)).atoms i (omega (arith, atom_count l e)) in
-      ∥∥₁_map (whole l e) (λ w. subst (λ o. AtomFound (contents t) o (Some (get_or l.atoms i other))) (sym at.1) ((laid l w).atoms i at.0 other at.1))
-
-  pub atom_past : (l : Layout) → t.found ≡ Ok l → (i : ℕ) → l.count ≤ i → ∥ AtomFound (contents t) (atom_of t i) None ∥₁
-  atom_past l e i h = let none : atom_of t i ≡ None = slice_get_past (table_of (contents t)).atoms i (omega (arith, atom_count l e)) in subst (λ o. ∥ AtomFound (contents t) o None ∥₁) (sym none) ∣ tt ∣₁
-
-  pub atom_none : (f : Fault) → t.found ≡ Err f → (i : ℕ) → ∥ AtomFound (contents t) (atom_of t i) None ∥₁
-  atom_none f e i = ∥∥₁_map (faulty f e) (λ h. subst (λ o. AtomFound (contents t) o None) (sym (ap (λ s. slice_get s.atoms i) (no_fault_table f h))) tt)
+  pub atom_at : (l : Layout) → t.found ≡ Ok l → (i : ℕ) → ∥ AtomFound (contents t) (atom_of t i) (slice_get (listed l.atoms) i) ∥₁
+  atom_at l e i = ∥∥₁_map (whole l e) (λ w. (laid l w).atoms.each i)
 
 -- ---- the outline
 
 module _ (t : Table) where
-  pub fault_none : (l : Layout) → t.found ≡ Ok l → None ≡ (outline_of t).fault
+  fault_none : (l : Layout) → t.found ≡ Ok l → None ≡ (outline_of t).fault
   fault_none l e = ∥∥₁_elim (whole t l e) (fault_set _ _) (λ w. sym (ap fault_of w.is))
 
-  pub fault_some : (f : Fault) → t.found ≡ Err f → Some f ≡ (outline_of t).fault
+  fault_some : (f : Fault) → t.found ≡ Err f → Some f ≡ (outline_of t).fault
   fault_some f e = ∥∥₁_elim (faulty t f e) (fault_set _ _) sym
 
-  pub kind_rows : (l : Layout) → t.found ≡ Ok l → length l.kinds ≡ 32
-  kind_rows l e = ∥∥₁_elim (whole t l e) (Coded-set coded_ℕ _ _) (λ w. w.laid.kind_rows)
+  pub fault_told : (r : Result (Bor Layout) (Bor Fault)) → result_copied r ≡ t.found → option_copied (result_err r) ≡ (outline_of t).fault
+  fault_told (Ok l) e = fault_none l.now (sym e)
+  fault_told (Err f) e = fault_some f.now (sym e)
 
-  pub kind_told : (l : Layout) → t.found ≡ Ok l → (n : ℕ) → get_or l.kinds n None ≡ (outline_of t).kind n
-  kind_told l e n = ∥∥₁_elim (whole t l e) (kind_set _ _) (λ w. (laid t l w).kinds n)
+  variable_at_name : (l : Layout) → t.found ≡ Ok l → (n : ℕ) → at l.variables n ≡ variable_of t n
+  variable_at_name l e n = ∥∥₁_elim (whole t l e) (variable_set _ _) (λ w. (laid t l w).variables n)
 
-  pub kind_none : (f : Fault) → t.found ≡ Err f → (n : ℕ) → None ≡ (outline_of t).kind n
-  kind_none f e n = ∥∥₁_elim (faulty t f e) (kind_set _ _) (λ h. sym (ap (λ s. variable_kind (variable_at s.variables n)) (no_fault_table t f h)))
+-- ---- by what is lent of the layout
 
-  pub top_rows : (l : Layout) → t.found ≡ Ok l → length l.tops ≡ 32
-  top_rows l e = ∥∥₁_elim (whole t l e) (Coded-set coded_ℕ _ _) (λ w. w.laid.top_rows)
+found_ok : (r : Result Layout Fault) (l : Layout) → Some l ≡ result_ok r → r ≡ Ok l
+found_ok (Ok m) l e = let same : l ≡ m = cc in sym (ap Ok same)
+found_ok (Err f) l e = cc
 
-  pub top_told : (l : Layout) → t.found ≡ Ok l → (n : ℕ) → get_or l.tops n 0 ≡ (outline_of t).top n
-  top_told l e n = ∥∥₁_elim (whole t l e) (Coded-set coded_ℕ _ _) (λ w. (laid t l w).tops n)
+-- what is lent at an index
+item_at : {X : Type 0} (xs : List X) (i : ℕ) (r : Option (Bor X)) → IsItemAt xs i r → option_copied r ≡ slice_get xs i
+item_at xs i None h = let past : length xs ≤ i = grind (arith, nat_tests, h.0) in sym (slice_get_past xs i past)
+item_at xs i (Some x) h =
+    let inside : i < length xs = grind (arith, nat_tests, h.0) in
+    let here : x.now ≡ get_or xs i x.now = h.4 (omega arith) x.now in
+    ap Some here ∙ sym (slice_get-get_or xs i x.now inside)
 
-  pub top_none : (f : Fault) → t.found ≡ Err f → (n : ℕ) → 0 ≡ (outline_of t).top n
-  top_none f e n = ∥∥₁_elim (faulty t f e) (Coded-set coded_ℕ _ _) (λ h. sym (ap (λ s. variable_top (variable_at s.variables n)) (no_fault_table t f h)))
+module _ (t : Table) (l : Layout) (e : Some l ≡ result_ok t.found) where
+  pub variable_told : (n : ℕ) → at l.variables n ≡ variable_of t n
+  variable_told n = variable_at_name t l (found_ok t.found l e) n
 
-  pub atoms_none : (f : Fault) → t.found ≡ Err f → 0 ≡ (outline_of t).atoms
-  atoms_none f e = ∥∥₁_elim (faulty t f e) (Coded-set coded_ℕ _ _) (λ h. sym (ap (λ s. length s.atoms) (no_fault_table t f h)))
-
--- what is told of an atom's set
-module _ (bs : List ℕ) (set : TableAtom → ℕ) (names : AtomLayout → Names) (same : (a : TableAtom) (l : AtomLayout) → AtomLaid bs a l → (n : ℕ) → has (names l) n ≡ bit (set a) n) where
-  pub set_told : (o : Option TableAtom) (l : AtomLayout) → ∥ AtomFound bs o (Some l) ∥₁ → (n : ℕ) → has (names l) n ≡ in_set set o n
-  set_told (Some a) l h n = ∥∥₁_elim h (Coded-set coded_bool _ _) (λ x. same a l x n)
-  set_told None l h n = ∥∥₁_elim h (Coded-set coded_bool _ _) (λ x. absurd x)
-
-pub set_none : (bs : List ℕ) (set : TableAtom → ℕ) (o : Option TableAtom) → ∥ AtomFound bs o None ∥₁ → (n : ℕ) → false ≡ in_set set o n
-set_none bs set (Some a) h n = ∥∥₁_elim h (Coded-set coded_bool _ _) (λ x. absurd x)
-set_none bs set None h n = refl
+  pub atom_told : (xs : List AtomLayout) (i : ℕ) (r : Option (Bor AtomLayout)) → xs ≡ listed l.atoms → IsItemAt xs i r → ∥ AtomFound (contents t) (atom_of t i) (option_copied r) ∥₁
+  atom_told xs i r same h =
+      let is : option_copied r ≡ slice_get (listed l.atoms) i = item_at xs i r h ∙ ap (λ ys. slice_get ys i) same in
+      subst (λ o. ∥ AtomFound (contents t) (atom_of t i) o ∥₁) (sym is) (atom_at t l (found_ok t.found l e) i)
 
 -- ---- an atom's choices
 
@@ -133,35 +115,21 @@ module _ (t : Table) (i : ℕ) (l : AtomLayout) (found : ∥ AtomFound (contents
       go (Some a) is h = ∥∥₁_elim h (prop (Some a)) (λ x. each a is x)
       go None is h = ∥∥₁_elim h (prop None) (λ x. absurd x)
 
-  pub choice_count : (layout_in r l).count ≡ length (choices_of r (atom_of t i))
-  choice_count = by_atom (λ o. (layout_in r l).count ≡ length (choices_of r o)) (λ o. Coded-set coded_ℕ _ _) (λ a is h. (choices_laid (contents t) a l r h).counted)
+  pub choice_at : (k : ℕ) → ∥ ChoiceFound (contents t) (controlled (atom_of t i)) (choice_of t r i k) (slice_get (listed (layout_in r l)) k) ∥₁
+  choice_at k =
+      by_atom (λ o. ∥ ChoiceFound (contents t) (controlled o) (slice_get (choices_of r o) k) (slice_get (listed (layout_in r l)) k) ∥₁) (λ o. ∥∥₁_prop)
+      (λ a is h. ∣ stand a is (slice_get (choices_of r (Some a)) k) (slice_get (listed (layout_in r l)) k) ((choices_laid (contents t) a l r h).each k) ∣₁)
+    where
+      stand : (a : TableAtom) → slice_get (table_of (contents t)).atoms i ≡ Some a → (c : Option TableChoice) (p : Option ℕ) → Paired (ChoiceLaid (contents t) (seen_in r a.reads a.awaits) (size a.controls)) c p → ChoiceFound (contents t) (size a.controls) c p
+      stand a is (Some c) (Some place) laid = choice_stands (seen_in r a.reads a.awaits) (size a.controls) (contents t) place c laid.end (atom_short (contents t) i a is) laid.read
+      stand a is None None laid = tt
+      stand a is (Some c) None laid = laid
+      stand a is None (Some place) laid = laid
 
-  pub choice_rows : length (layout_in r l).places ≡ 8
-  choice_rows = by_atom (λ o. length (layout_in r l).places ≡ 8) (λ o. Coded-set coded_ℕ _ _) (λ a is h. (choices_laid (contents t) a l r h).rows)
-
-  pub few_choices : (layout_in r l).count ≤ 8
-  few_choices = let few = (table_meaning (contents t)).choice_laws.few_choices r i in omega (arith, choice_count)
-
-  pub choice_there : (k : ℕ) → k < (layout_in r l).count → ∥ ChoiceFound (contents t) (controlled (atom_of t i)) (choice_of t r i k) (Some (get_or (layout_in r l).places k 0)) ∥₁
-  choice_there k h =
-      let at = nth_there (choices_of r (atom_of t i)) k (omega (arith, choice_count)) in
-      subst (λ o. ∥ ChoiceFound (contents t) (controlled (atom_of t i)) o (Some (get_or (layout_in r l).places k 0)) ∥₁) (sym at.1)
-      (by_atom (λ o. slice_get (choices_of r o) k ≡ Some at.0 → ∥ ChoiceFound (contents t) (controlled o) (Some at.0) (Some (get_or (layout_in r l).places k 0)) ∥₁) (λ o. Π_prop (λ e. ∥∥₁_prop))
-      (λ a is h e. let c = (choices_laid (contents t) a l r h).each k at.0 e in ∣ choice_stands (seen_in r a.reads a.awaits) (size a.controls) (contents t) _ at.0 c.end (atom_short (contents t) i a is) c.read ∣₁) at.1)
-
-  pub choice_past : (k : ℕ) → (layout_in r l).count ≤ k → ∥ ChoiceFound (contents t) (controlled (atom_of t i)) (choice_of t r i k) None ∥₁
-  choice_past k h = subst (λ o. ∥ ChoiceFound (contents t) (controlled (atom_of t i)) o None ∥₁) (sym (slice_get_past (choices_of r (atom_of t i)) k (omega (arith, choice_count)))) ∣ tt ∣₁
-
-no_choices : (r : Round) (k : ℕ) → slice_get (choices_of r None) k ≡ None
-no_choices Initial k = refl
-no_choices Update k = refl
-
-pub choice_none : (t : Table) (r : Round) (i k : ℕ) → ∥ AtomFound (contents t) (atom_of t i) None ∥₁ → ∥ ChoiceFound (contents t) (controlled (atom_of t i)) (choice_of t r i k) None ∥₁
-choice_none t r i k found = go (atom_of t i) found
-  where
-    go : (o : Option TableAtom) → ∥ AtomFound (contents t) o None ∥₁ → ∥ ChoiceFound (contents t) (controlled o) (slice_get (choices_of r o) k) None ∥₁
-    go (Some a) h = ∥∥₁_elim h ∥∥₁_prop (λ x. absurd x)
-    go None h = subst (λ c. ∥ ChoiceFound (contents t) 0 c None ∥₁) (sym (no_choices r k)) ∣ tt ∣₁
+  pub choice_told : (xs : List ℕ) (k : ℕ) (r' : Option (Bor ℕ)) (p : Option ℕ) → xs ≡ listed (layout_in r l) → IsItemAt xs k r' → p ≡ option_copied r' → ∥ ChoiceFound (contents t) (controlled (atom_of t i)) (choice_of t r i k) p ∥₁
+  choice_told xs k r' p same h e =
+      let is : p ≡ slice_get (listed (layout_in r l)) k = e ∙ item_at xs k r' h ∙ ap (λ ys. slice_get ys k) same in
+      subst (λ o. ∥ ChoiceFound (contents t) (controlled (atom_of t i)) (choice_of t r i k) o ∥₁) (sym is) (choice_at k)
 
 -- ---- a choice's items
 
@@ -208,51 +176,66 @@ module _ (bs : List ℕ) (count : ℕ) (o : Option TableChoice) (found : ∥ Cho
 
 -- ---- the number for a name
 
-rank_same : (f g : ℕ → Bool) → ((n : ℕ) → f n ≡ g n) → (n : ℕ) → rank f n ≡ rank g n
-unfolding rank
+rank_same : (f g : ℕ → Bool) → ((n : ℕ) → f n ≡ g n) → (n : ℕ) → count f n ≡ count g n
+unfolding count
 rank_same f g e zero = refl
-rank_same f g e (suc n) = ap (λ i. i + cond (f n) 1 0) (rank_same f g e n) ∙ ap (λ b. rank g n + cond b 1 0) (e n)
+rank_same f g e (suc n) = ap (λ i. i + cond (f n) 1 0) (rank_same f g e n) ∙ ap (λ b. count g n + cond b 1 0) (e n)
 
-module _ (t : Table) (r : Round) (i k n : ℕ) (controls : Names) (same : (n : ℕ) → has controls n ≡ (outline_of t).controls i n) where
+count_within : (p : ℕ → Bool) (n : ℕ) → count p n ≤ n
+unfolding count
+count_within p zero = zero-le
+count_within p (suc n) = go (p n) (count_within p n)
+  where
+    go : (b : Bool) → count p n ≤ n → count p n + cond b 1 0 ≤ suc n
+    go true h = omega arith
+    go false h = omega arith
+
+module _ (t : Table) (r : Round) (i k' n : ℕ) (controls : Names) (same : (n : ℕ) → has controls n ≡ (outline_of t).controls i n) where
   module _ (here : has controls n ≡ true) where
     name_low : n < 32
     name_low =
         let laws = (table_meaning (contents t)).outline_laws in
         laws.names n (laws.controls_known i n (sym (same n) ∙ here)).1
 
-    rank_low : rank (has controls) n < controlled (atom_of t i)
+    pub few_before : count (has controls) n < 32
+    few_before = let l = count_within (has controls) n in omega (arith, name_low)
+
+    rank_low : count (has controls) n < controlled (atom_of t i)
     rank_low = go (atom_of t i) same
       where
-        go : (o : Option TableAtom) → ((n : ℕ) → has controls n ≡ in_set (λ x. x.controls) o n) → rank (has controls) n < controlled o
+        go : (o : Option TableAtom) → ((n : ℕ) → has controls n ≡ in_set (λ x. x.controls) o n) → count (has controls) n < controlled o
         go None e = absurd (false≢true (sym (e n) ∙ here))
         go (Some a) e = omega (arith, rank_within (bit a.controls) n 32 (sym (e n) ∙ here) name_low, rank_same (has controls) (bit a.controls) e n)
 
-    number_at : number_form (slice_get (numbers_of (choice_of t r i k)) (rank (has controls) n)) ≡ number_bytes_of t r i k n
+    number_at : number_form (slice_get (numbers_of (choice_of t r i k')) (count (has controls) n)) ≡ number_bytes_of t r i k' n
     number_at = go (atom_of t i) same
       where
-        go : (o : Option TableAtom) → ((n : ℕ) → has controls n ≡ in_set (λ x. x.controls) o n) → number_form (slice_get (numbers_of (choice_of t r i k)) (rank (has controls) n)) ≡ number_form (number_for o n (choice_of t r i k))
+        go : (o : Option TableAtom) → ((n : ℕ) → has controls n ≡ in_set (λ x. x.controls) o n) → number_form (slice_get (numbers_of (choice_of t r i k')) (count (has controls) n)) ≡ number_form (number_for o n (choice_of t r i k'))
         go None e = absurd (false≢true (sym (e n) ∙ here))
         go (Some a) e =
-            ap (λ m. number_form (slice_get (numbers_of (choice_of t r i k)) m)) (rank_same (has controls) (bit a.controls) e n)
-            ∙ ap (λ b. number_form (number_if b (rank (bit a.controls) n) (choice_of t r i k))) (sym (sym (e n) ∙ here))
+            ap (λ m. number_form (slice_get (numbers_of (choice_of t r i k')) m)) (rank_same (has controls) (bit a.controls) e n)
+            ∙ ap (λ b. number_form (number_if b (count (bit a.controls) n) (choice_of t r i k'))) (sym (sym (e n) ∙ here))
 
-    pub number_none : ∥ ChoiceFound (contents t) (controlled (atom_of t i)) (choice_of t r i k) None ∥₁ → [] ≡ number_bytes_of t r i k n
-    number_none found = no_number (contents t) (controlled (atom_of t i)) (choice_of t r i k) found (rank (has controls) n) ∙ number_at
+    pub number_none : ∥ ChoiceFound (contents t) (controlled (atom_of t i)) (choice_of t r i k') None ∥₁ → [] ≡ number_bytes_of t r i k' n
+    number_none found = no_number (contents t) (controlled (atom_of t i)) (choice_of t r i k') found (count (has controls) n) ∙ number_at
 
-    module _ (place : ℕ) (found : ∥ ChoiceFound (contents t) (controlled (atom_of t i)) (choice_of t r i k) (Some place) ∥₁) where
+    module _ (place : ℕ) (found : ∥ ChoiceFound (contents t) (controlled (atom_of t i)) (choice_of t r i k') (Some place) ∥₁) where
       -- every item up to the number lies within the bytes
-      pub walk_inside : (bs : List ℕ) → bs ≡ contents t → (m : ℕ) → m ≤ suc (rank (has controls) n) → after_item bs (item_place bs place m) ≤ length bs
+      pub walk_inside : (bs : List ℕ) → bs ≡ contents t → (m : ℕ) → m ≤ suc (count (has controls) n) → after_item bs (item_place bs place m) ≤ length bs
       walk_inside bs e m h =
-          subst (λ xs. after_item xs (item_place xs place m) ≤ length xs) (sym e) (items_inside (contents t) (controlled (atom_of t i)) (choice_of t r i k) place found (rank (has controls) n) m rank_low h)
+          subst (λ xs. after_item xs (item_place xs place m) ≤ length xs) (sym e) (items_inside (contents t) (controlled (atom_of t i)) (choice_of t r i k') place found (count (has controls) n) m rank_low h)
 
-      pub number_there : (bs : List ℕ) → bs ≡ contents t → item_bytes bs (item_place bs place (suc (rank (has controls) n))) ≡ number_bytes_of t r i k n
+      pub number_there : (bs : List ℕ) → bs ≡ contents t → item_bytes bs (item_place bs place (suc (count (has controls) n))) ≡ number_bytes_of t r i k' n
       number_there bs e =
-          ap (λ xs. item_bytes xs (item_place xs place (suc (rank (has controls) n)))) e
-          ∙ number_is (contents t) (controlled (atom_of t i)) (choice_of t r i k) place found (rank (has controls) n) rank_low
+          ap (λ xs. item_bytes xs (item_place xs place (suc (count (has controls) n)))) e
+          ∙ number_is (contents t) (controlled (atom_of t i)) (choice_of t r i k') place found (count (has controls) n) rank_low
           ∙ number_at
 
--- no atom, no choices
-pub no_choice_count : (bs : List ℕ) (r : Round) (o : Option TableAtom) → ∥ AtomFound bs o None ∥₁ → 0 ≡ length (choices_of r o)
-no_choice_count bs r (Some a) h = ∥∥₁_elim h (Coded-set coded_ℕ _ _) (λ x. absurd x)
-no_choice_count bs Initial None h = refl
-no_choice_count bs Update None h = refl
+      pub walk_at : (bs : List ℕ) (k m : ℕ) → bs ≡ contents t → k ≡ place → m ≡ count (has controls) n + 1 → (j : ℕ) → j ≤ m → after_item bs (item_place bs k j) ≤ length bs
+      walk_at bs k m same at e j l = subst (λ i. after_item bs (item_place bs i j) ≤ length bs) (sym at) (walk_inside bs same j (omega arith))
+
+      -- what stands so many items later is what is given
+      pub number_later : (bs xs : List ℕ) (k p m : ℕ) → bs ≡ contents t → k ≡ place → m ≡ count (has controls) n + 1 → xs ≡ bs → p ≡ item_place bs k m → item_bytes xs p ≡ number_bytes_of t r i k' n
+      number_later bs xs k p m same at e is there =
+          let next : m ≡ suc (count (has controls) n) = omega arith in
+          ap (λ ys. item_bytes ys p) is ∙ ap (item_bytes bs) (there ∙ ap (λ q. item_place bs q m) at ∙ ap (item_place bs place) next) ∙ number_there bs same

@@ -1,6 +1,8 @@
 -- What a choice's expressions are worth is what the table means. Assumes nothing.
+use Rattle.model.specs.Tests.{count}
 use Rattle.std.proofs.Common.{◌≡◌, ℕ, Bool, true, false, List, [], ℤ, pos, Some, None, Option, sym, refl, ap, ◌∙◌, subst}
 use Rattle.std.proofs.ByRecursion.{All-get_or}
+use Rattle.std.proofs.lemmas.Option.{get_or_from_slice_get}
 use Rattle.std.specs.List.{AllByRecursion as All, slice_get}
 use Rattle.model.specs.States.{value}
 use Rattle.model.specs.declared.Round.{Round}
@@ -9,13 +11,12 @@ use Rattle.expression.specs.Evaluation.{evaluated_number, evaluated_truth, Numbe
 use Rattle.language.specs.ExpressionLaws.{none_some, nth_inside}
 use Rattle.language.specs.Expressions.{Number, Seen, read_number, read_truth}
 use Rattle.language.specs.TableLaws.{table_sound}
-use Rattle.language.specs.Tables.{TableVariable, TableAtom, TableChoice, bit, rank, size, seen_in, NumberFits, ChoiceRight, ChoicesRight, AtomRight, table_of, choices_of, choice_opens, numbers_of, value_of, given, atom_gives}
+use Rattle.language.specs.Tables.{TableVariable, TableAtom, TableChoice, bit, size, seen_in, NumberFits, ChoiceRight, ChoicesRight, AtomRight, table_of, choices_of, choice_opens, numbers_of, value_of, given, atom_gives}
 use Rattle.table.specs.Kept.{contents, atom_of, choice_of, guard_form, number_if, number_for, number_form, number_bytes_of}
 use Rattle.table.specs.declared.kept.Table.{Table}
-use Rattle.table.proofs.Standing.{nth_getD}
 
 each : {X : Type 0} (P : X → Type 0) (xs : List X) (i : ℕ) (x : X) → All P xs → slice_get xs i ≡ Some x → P x
-each P xs i x all e = subst P (nth_getD xs i x x e) (All-get_or P xs i x (nth_inside xs i x e) all)
+each P xs i x all e = subst P (get_or_from_slice_get xs i x x e) (All-get_or P xs i x (nth_inside xs i x e) all)
 
 choices_right : (r : Round) {vs : List TableVariable} (a : TableAtom) → AtomRight vs a → ChoicesRight (seen_in r a.reads a.awaits) (size a.controls) (choices_of r (Some a))
 choices_right Initial a h = h.initial_right
@@ -57,7 +58,7 @@ gives_value : (r : Round) (o : Option TableAtom) (k n : ℕ) (old new : List ℕ
 gives_value r None k n old new = refl
 gives_value r (Some a) k n old new = go (bit a.controls n)
   where
-    go : (b : Bool) → given b (rank (bit a.controls) n) (slice_get (choices_of r (Some a)) k) (value old) (value new) ≡ value_of (number_if b (rank (bit a.controls) n) (slice_get (choices_of r (Some a)) k)) (value old) (value new)
+    go : (b : Bool) → given b (count (bit a.controls) n) (slice_get (choices_of r (Some a)) k) (value old) (value new) ≡ value_of (number_if b (count (bit a.controls) n) (slice_get (choices_of r (Some a)) k)) (value old) (value new)
     go true = refl
     go false = refl
 
@@ -75,7 +76,7 @@ number_fits t r i k n e h = go (atom_of t i) h
 
     go : (o : Option TableAtom) → number_for o n (choice_of t r i k) ≡ Some e → (s : Seen) × NumberFits s e
     go None h = none_some e h
-    go (Some a) h = by (bit a.controls n) (rank (bit a.controls) n) h
+    go (Some a) h = by (bit a.controls n) (count (bit a.controls) n) h
 
 pub gives : (t : Table) (r : Round) (i k n : ℕ) (bs old new : List ℕ) (answer : ℤ) → bs ≡ number_bytes_of t r i k n → answer ≡ evaluated_number bs old new → NumberEvaluated bs old new answer → answer ≡ atom_gives r (atom_of t i) k n (value old) (value new)
 gives t r i k n bs old new answer form is means = go (number_for (atom_of t i) n (choice_of t r i k)) refl form ∙ sym (gives_value r (atom_of t i) k n old new)

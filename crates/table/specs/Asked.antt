@@ -5,19 +5,17 @@ use Rattle.model.specs.declared.Round.{Round}
 use Rattle.model.specs.declared.Round.TheVariants.{Initial, Update}
 use Rattle.language.specs.Expressions.{Number, number_bytes, truth_bytes}
 use Rattle.language.specs.Tables.{TableAtom, TableChoice, size}
+use Rattle.model.specs.declared.row.Row.{Row}
 use Rattle.layout.specs.Laid.{AtomLaid}
+use Rattle.layout.specs.Rows.{Paired}
 use Rattle.layout.specs.declared.parts.AtomLayout.{AtomLayout}
-use Rattle.layout.specs.declared.parts.ChoiceLayout.{ChoiceLayout}
 use Rattle.table.specs.Items.{after_item, item_bytes, item_place}
 
 -- the atom, if there is one, lies so
 abbrev pub AtomFound : List ℕ → Option TableAtom → Option AtomLayout → Type 0
-AtomFound bs (Some a) (Some l) = AtomLaid bs a l
-AtomFound bs (Some a) None = ⊥
-AtomFound bs None (Some l) = ⊥
-AtomFound bs None None = Unit {0}
+AtomFound bs = Paired (AtomLaid bs)
 
-abbrev pub layout_in : Round → AtomLayout → ChoiceLayout
+abbrev pub layout_in : Round → AtomLayout → Row ℕ 8
 layout_in Initial l = l.initial
 layout_in Update l = l.update
 
@@ -37,7 +35,4 @@ pub record ChoiceStands (bs : List ℕ) (count : ℕ) (c : TableChoice) (place :
 
 -- the choice, if there is one, stands at this place
 abbrev pub ChoiceFound : List ℕ → ℕ → Option TableChoice → Option ℕ → Type 0
-ChoiceFound bs count (Some c) (Some place) = ChoiceStands bs count c place
-ChoiceFound bs count (Some c) None = ⊥
-ChoiceFound bs count None (Some place) = ⊥
-ChoiceFound bs count None None = Unit {0}
+ChoiceFound bs count = Paired (ChoiceStands bs count)

@@ -1,7 +1,14 @@
 -- The bytes that an opened table keeps. Assumes nothing.
-use Rattle.std.specs.Prelude.{ℕ, cond, List, take, replicate, nat_le}
+use Rattle.std.specs.Prelude.{ℕ, List, replicate, Ok, Err, Result}
+use Rattle.model.specs.Rows.{listed}
+use Rattle.model.specs.declared.row.Full.{Full}
+use Rattle.model.specs.declared.row.Row.{Row}
 
--- The byte string that is held in a row with room for 4,096 bytes. Of a longer one only the length is kept, and any
--- string of that length stands for it: all of them have the same fault, and no other answer looks at them.
-abbrev pub held : List ℕ → ℕ → List ℕ
-held row size = cond (nat_le size 4096) (take size row) (replicate size 0)
+-- What stands for more than 4,096 bytes, of which none are kept: all of them have the same fault, and no other answer
+-- looks at them.
+unfoldable pub too_many : List ℕ
+too_many = replicate 4097 0
+
+abbrev pub held : Result (Row ℕ 4096) Full → List ℕ
+held (Ok row) = listed row
+held (Err _) = too_many

@@ -1,23 +1,31 @@
 -- What an opened table holds, part by part. Assumes nothing.
+use Rattle.model.specs.Tests.{count}
 use Rattle.std.specs.Prelude.{ℕ, Bool, true, false, List, [], Some, None, Option}
 use Rattle.std.specs.List.{slice_get}
+use Rattle.std.specs.Option.{option_map}
 use Rattle.model.specs.Meanings.{OutlineFacts, Meaning}
 use Rattle.model.specs.declared.Round.{Round}
 use Rattle.language.specs.Expressions.{Number, number_bytes, truth_bytes}
 use Rattle.language.specs.TableLaws.{table_meaning}
-use Rattle.language.specs.Tables.{TableAtom, TableChoice, bit, rank, table_of, table_outline, choices_of, numbers_of}
+use Rattle.language.specs.Tables.{TableAtom, TableChoice, bit, variable_at, table_of, table_outline, choices_of, numbers_of}
+use Rattle.layout.specs.Variables.{kept}
+use Rattle.layout.specs.declared.variables.Variable.{Variable}
 use Rattle.table.specs.Contents.{held}
 use Rattle.table.specs.declared.kept.Table.{Table}
 
 -- the byte string that was opened, or one that stands for it where it was too long
 abbrev pub contents : Table → List ℕ
-contents t = held t.bytes t.size
+contents t = held t.bytes
 
 abbrev pub outline_of : Table → OutlineFacts
 outline_of t = table_outline (contents t)
 
 abbrev pub meaning_of : Table → Meaning
 meaning_of t = table_meaning (contents t)
+
+-- the variable of the name n, but for the name
+abbrev pub variable_of : Table → ℕ → Option Variable
+variable_of t n = option_map kept (variable_at (table_of (contents t)).variables n)
 
 abbrev pub atom_of : Table → ℕ → Option TableAtom
 atom_of t a = slice_get (table_of (contents t)).atoms a
@@ -38,7 +46,7 @@ number_if true place c = slice_get (numbers_of c) place
 -- what the choice gives to the name n: its number for the place of n among the controlled names, rising
 abbrev pub number_for : Option TableAtom → ℕ → Option TableChoice → Option Number
 number_for None n c = None
-number_for (Some a) n c = number_if (bit a.controls n) (rank (bit a.controls) n) c
+number_for (Some a) n c = number_if (bit a.controls n) (count (bit a.controls) n) c
 
 abbrev pub number_form : Option Number → List ℕ
 number_form None = []

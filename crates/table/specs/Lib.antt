@@ -3,3 +3,4 @@ pub mod Contents
 pub mod Items
 pub mod Kept
 pub mod Promises
+pub mod Stands

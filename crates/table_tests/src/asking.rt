@@ -1,18 +1,15 @@
 // Questions that the tests ask of a table.
 use drawing::{Drawing, Outline};
-use model::{Kind, Names, Round, State};
+use model::{Fault, Kind, Names, Round, State};
 use std::process::Abort;
 use table::Table;
 
-// Does opening these bytes tell this number and this place, both 0 for no fault?
+// Does opening these bytes tell this number and this place, 0 for no fault?
 pub fn check_fault(rt: &impl Abort, bytes: &[u8], number: u8, place: u16) {
-    let told = match Table::open(bytes).fault() {
-        Some(fault) => (fault.number, fault.layer, fault.place),
-        None => (0, 0, 0),
-    };
+    let expected = (number != 0).then(|| Fault::own(number, place));
     assert_eq!(rt;
-        told,
-        (number, 0, place),
+        Table::open(bytes).fault(),
+        expected,
         "{} bytes: {bytes:?}",
         bytes.len()
     );
@@ -20,12 +17,7 @@ pub fn check_fault(rt: &impl Abort, bytes: &[u8], number: u8, place: u16) {
 
 // Does the set have these names and no others?
 fn is_just(set: Names, names: &[u8]) -> bool {
-    for name in 0..=255u8 {
-        if set.has(name) != names.contains(&name) {
-            return false;
-        }
-    }
-    true
+    (0..=255u8).all(|name| set.has(name) == names.contains(&name))
 }
 
 // Are these the atom's sets, controlled, read and awaited?
@@ -48,16 +40,13 @@ pub fn check_variable(rt: &impl Abort, table: &Table, name: u8, kind: Option<Kin
     );
 }
 
+// A round, and the old and the new values that a choice is asked at.
+#[derive(Clone, Copy)]
+pub struct Moment(pub Round, pub State, pub State);
+
 // Are these choices of the atom open, and no others?
-pub fn check_open(
-    rt: &impl Abort,
-    table: &Table,
-    round: Round,
-    atom: u8,
-    old: State,
-    new: State,
-    open: &[u8],
-) {
+pub fn check_open(rt: &impl Abort, table: &Table, atom: u8, moment: Moment, open: &[u8]) {
+    let Moment(round, old, new) = moment;
     for choice in 0..=255u8 {
         assert_eq!(rt;
             table.is_open(round, atom, choice, old, new),
@@ -67,16 +56,15 @@ pub fn check_open(
     }
 }
 
-// Does the choice give these numbers to these names?
+// Does the choice of the only atom give these numbers to these names?
 pub fn check_gives(
     rt: &impl Abort,
     table: &Table,
-    round: Round,
     choice: u8,
-    old: State,
-    new: State,
+    moment: Moment,
     given: &[(u8, i16)],
 ) {
+    let Moment(round, old, new) = moment;
     for (name, number) in given {
         assert_eq!(rt;
             table.gives(round, 0, choice, *name, old, new),

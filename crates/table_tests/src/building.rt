@@ -1,4 +1,5 @@
 // Long expressions and tables, put together from parts.
+use std::alloc::Global;
 use std::test::Fail;
 
 // One variable of top 1, and one atom that controls and reads it: it starts at 0, and an update takes its old value from 1.
@@ -6,13 +7,6 @@ pub const TOGGLE: [u8; 32] = [
     1, 0, 1, 1, 1, 0, 0, 0, 1, 0, 0, 0, 1, 0, 0, 0, 0, 1, 1, 1, 21, 2, 0, 0, 1, 21, 5, 4, 0, 1, 1,
     0,
 ];
-
-pub fn push_all(bytes: &mut Vec<u8>, part: &[u8]) -> Result<(), Fail> {
-    for byte in part {
-        bytes.push(*byte)?;
-    }
-    Ok(())
-}
 
 // A sum of so many times 255, a power of two, that nests as little as it can: 3 n - 1 bytes.
 pub fn push_sum(bytes: &mut Vec<u8>, count: u32) -> Result<(), Fail> {
@@ -37,14 +31,14 @@ pub fn push_highest(bytes: &mut Vec<u8>) -> Result<(), Fail> {
 
 // 20 times 255 taken from 0, in 62 bytes.
 pub fn push_lowest(bytes: &mut Vec<u8>) -> Result<(), Fail> {
-    push_all(bytes, &[4, 0, 0, 3])?;
+    bytes.extend_from_slice(&[4, 0, 0, 3])?;
     push_sum(bytes, 16)?;
     push_sum(bytes, 4)
 }
 
 // Twice the negation of 5 times 255 being less than 16 times: eight levels and 64 bytes, and it holds.
 pub fn push_longest_truth(bytes: &mut Vec<u8>) -> Result<(), Fail> {
-    push_all(bytes, &[18, 18, 17, 3])?;
+    bytes.extend_from_slice(&[18, 18, 17, 3])?;
     push_sum(bytes, 4)?;
     push_sum(bytes, 1)?;
     push_sum(bytes, 16)
@@ -75,19 +69,20 @@ fn push_guard(bytes: &mut Vec<u8>) -> Result<(), Fail> {
 
 // One variable, and as many atoms as told, of which two are there, with eight choices of each kind; all guards but the last
 // have 64 bytes, and all numbers 62.
-pub fn push_long_table(bytes: &mut Vec<u8>, atoms: u8, last: LastGuard) -> Result<(), Fail> {
-    push_all(bytes, &[1, 0, 1, 255, atoms])?;
+pub fn long_table(heap: Global, atoms: u8, last: LastGuard) -> Result<Vec<u8>, Fail> {
+    let mut bytes = Vec::new(heap);
+    bytes.extend_from_slice(&[1, 0, 1, 255, atoms])?;
     for choice in 0..32u8 {
         if choice % 16 == 0 {
-            push_all(bytes, &[0, 0, 0, 1, 0, 0, 0, 0, 0, 0, 0, 0, 8, 8])?;
+            bytes.extend_from_slice(&[0, 0, 0, 1, 0, 0, 0, 0, 0, 0, 0, 0, 8, 8])?;
         }
         if choice == 31 {
-            push_last_guard(bytes, last)?;
+            push_last_guard(&mut bytes, last)?;
         } else {
-            push_guard(bytes)?;
+            push_guard(&mut bytes)?;
         }
         bytes.push(62)?;
-        push_highest(bytes)?;
+        push_highest(&mut bytes)?;
     }
-    Ok(())
+    Ok(bytes)
 }

@@ -1,6 +1,6 @@
 // What the choices of a table do.
-use crate::asking::{check_fault, check_gives, check_open, check_sets, check_variable};
-use crate::building::{TOGGLE, push_all, push_highest, push_longest_truth, push_lowest};
+use crate::asking::{Moment, check_fault, check_gives, check_open, check_sets, check_variable};
+use crate::building::{TOGGLE, push_highest, push_longest_truth, push_lowest};
 use drawing::{Drawing, Outline};
 use model::{Kind, Round};
 use std::test::Fail;
@@ -19,28 +19,31 @@ fn toggle(rt: HostRuntime) {
     check_sets(&rt, &table, 255, [&[], &[], &[]]);
     for round in [Round::Initial, Round::Update] {
         assert_eq!(rt; (table.choices(round, 0), table.choices(round, 1)), (1, 0));
-        check_open(&rt, &table, round, 0, [1; 32], [0; 32], &[0]);
-        check_open(&rt, &table, round, 1, [1; 32], [0; 32], &[]);
+        let moment = Moment(round, [1; 32], [0; 32]);
+        check_open(&rt, &table, 0, moment, &[0]);
+        check_open(&rt, &table, 1, moment, &[]);
     }
     check_gives(
         &rt,
         &table,
-        Round::Initial,
         0,
-        [1; 32],
-        [1; 32],
+        Moment(Round::Initial, [1; 32], [1; 32]),
         &[(0, 0), (1, 0), (32, 0)],
     );
     check_gives(
         &rt,
         &table,
-        Round::Update,
         0,
-        [0; 32],
-        [1; 32],
+        Moment(Round::Update, [0; 32], [1; 32]),
         &[(0, 1), (1, 0), (255, 0)],
     );
-    check_gives(&rt, &table, Round::Update, 0, [3; 32], [1; 32], &[(0, -2)]);
+    check_gives(
+        &rt,
+        &table,
+        0,
+        Moment(Round::Update, [3; 32], [1; 32]),
+        &[(0, -2)],
+    );
 }
 
 #[test]
@@ -72,22 +75,56 @@ fn read_and_awaited(rt: HostRuntime) {
     assert_eq!(rt; table.fault(), None);
     check_variable(&rt, &table, 1, Some(Kind::External), 3);
     check_sets(&rt, &table, 0, [&[0], &[1], &[1]]);
-    check_open(&rt, &table, Round::Initial, 0, [9; 32], [2; 32], &[0]);
-    check_open(&rt, &table, Round::Initial, 0, [9; 32], [1; 32], &[]);
-    check_gives(&rt, &table, Round::Initial, 0, [9; 32], [2; 32], &[(0, 2)]);
-    check_open(&rt, &table, Round::Update, 0, [3; 32], [2; 32], &[0]);
+    check_open(
+        &rt,
+        &table,
+        0,
+        Moment(Round::Initial, [9; 32], [2; 32]),
+        &[0],
+    );
+    check_open(
+        &rt,
+        &table,
+        0,
+        Moment(Round::Initial, [9; 32], [1; 32]),
+        &[],
+    );
     check_gives(
         &rt,
         &table,
-        Round::Update,
         0,
-        [3; 32],
-        [2; 32],
+        Moment(Round::Initial, [9; 32], [2; 32]),
+        &[(0, 2)],
+    );
+    check_open(
+        &rt,
+        &table,
+        0,
+        Moment(Round::Update, [3; 32], [2; 32]),
+        &[0],
+    );
+    check_gives(
+        &rt,
+        &table,
+        0,
+        Moment(Round::Update, [3; 32], [2; 32]),
         &[(0, 5), (1, 0)],
     );
-    check_open(&rt, &table, Round::Update, 0, [2; 32], [2; 32], &[1]);
+    check_open(
+        &rt,
+        &table,
+        0,
+        Moment(Round::Update, [2; 32], [2; 32]),
+        &[1],
+    );
     // a closed choice gives what it would give
-    check_gives(&rt, &table, Round::Update, 1, [3; 32], [2; 32], &[(0, -1)]);
+    check_gives(
+        &rt,
+        &table,
+        1,
+        Moment(Round::Update, [3; 32], [2; 32]),
+        &[(0, -1)],
+    );
     bytes[29] = 1;
     check_fault(&rt, &bytes, 5, 30);
 }
@@ -95,39 +132,41 @@ fn read_and_awaited(rt: HostRuntime) {
 #[test]
 fn deepest_and_longest(rt: HostRuntime) -> Result<(), Fail> {
     let mut bytes = Vec::new(rt.alloc());
-    push_all(
-        &mut bytes,
-        &[1, 0, 1, 255, 1, 0, 0, 0, 1, 0, 0, 0, 0, 0, 0, 0, 0, 1, 2],
-    )?;
-    push_all(
-        &mut bytes,
-        &[8, 18, 18, 18, 18, 18, 18, 18, 21, 2, 0, 0, 64],
-    )?;
+    bytes.extend_from_slice(&[1, 0, 1, 255, 1, 0, 0, 0, 1, 0, 0, 0, 0, 0, 0, 0, 0, 1, 2])?;
+    bytes.extend_from_slice(&[8, 18, 18, 18, 18, 18, 18, 18, 21, 2, 0, 0, 64])?;
     push_longest_truth(&mut bytes)?;
     bytes.push(62)?;
     push_highest(&mut bytes)?;
-    push_all(&mut bytes, &[1, 21, 62])?;
+    bytes.extend_from_slice(&[1, 21, 62])?;
     push_lowest(&mut bytes)?;
     let table = Table::open(bytes.as_slice());
     assert_eq!(rt; table.fault(), None);
-    check_open(&rt, &table, Round::Initial, 0, [0; 32], [0; 32], &[]);
-    check_open(&rt, &table, Round::Update, 0, [0; 32], [0; 32], &[0, 1]);
+    check_open(
+        &rt,
+        &table,
+        0,
+        Moment(Round::Initial, [0; 32], [0; 32]),
+        &[],
+    );
+    check_open(
+        &rt,
+        &table,
+        0,
+        Moment(Round::Update, [0; 32], [0; 32]),
+        &[0, 1],
+    );
     check_gives(
         &rt,
         &table,
-        Round::Update,
         0,
-        [0; 32],
-        [0; 32],
+        Moment(Round::Update, [0; 32], [0; 32]),
         &[(0, 5355)],
     );
     check_gives(
         &rt,
         &table,
-        Round::Update,
         1,
-        [0; 32],
-        [0; 32],
+        Moment(Round::Update, [0; 32], [0; 32]),
         &[(0, -5100)],
     );
     let ninth = [

@@ -1,6 +1,6 @@
 // What opening a table finds wrong, and where.
 use crate::asking::check_fault;
-use crate::building::{TOGGLE, push_all};
+use crate::building::TOGGLE;
 use std::test::Fail;
 
 #[test]
@@ -34,7 +34,7 @@ fn toggle_cut_short(rt: HostRuntime) {
 fn toggle_with_more(rt: HostRuntime) -> Result<(), Fail> {
     for byte in [0, 1, 21, 255] {
         let mut longer = Vec::new(rt.alloc());
-        push_all(&mut longer, &TOGGLE)?;
+        longer.extend_from_slice(&TOGGLE)?;
         longer.push(byte)?;
         check_fault(&rt, longer.as_slice(), 6, 32);
     }
@@ -85,8 +85,8 @@ fn toggle_changed(rt: HostRuntime) {
     for (place, found) in FOUND.iter().enumerate() {
         for (change, (number, at)) in CHANGES.iter().zip(found) {
             let mut bytes = TOGGLE;
-            if place < 32 {
-                bytes[place] = *change;
+            if let Some(byte) = bytes.get_mut(place) {
+                *byte = *change;
             }
             check_fault(&rt, &bytes, *number, *at);
         }

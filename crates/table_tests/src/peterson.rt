@@ -1,6 +1,6 @@
 // Two processes that take turns in a critical section. Names 0 and 1 are the first one's counter (0 outside, 1 requesting, 2
 // inside) and flag, 2 and 3 the second one's. In a round a process goes on or sleeps, by the old values alone.
-use crate::asking::{check_fault, check_gives, check_open, check_sets, check_variable};
+use crate::asking::{Moment, check_fault, check_gives, check_open, check_sets, check_variable};
 use drawing::{Drawing, Outline};
 use model::{Kind, Round, State};
 use std::process::Abort;
@@ -45,7 +45,13 @@ fn check_process(rt: &impl Abort, table: &Table, mine: Kind, its: Kind) {
     check_variable(rt, table, 1, Some(mine), 1);
     check_variable(rt, table, 2, Some(its), 2);
     check_variable(rt, table, 3, Some(its), 1);
-    check_open(rt, table, Round::Initial, 0, [0; 32], [0; 32], &[0, 1]);
+    check_open(
+        rt,
+        table,
+        0,
+        Moment(Round::Initial, [0; 32], [0; 32]),
+        &[0, 1],
+    );
 }
 
 #[test]
@@ -72,8 +78,14 @@ fn steps(rt: HostRuntime) {
         (at(0, 1, 1, 0), &[0, 3], &[1, 3]),
     ];
     for (old, open, other_open) in cases {
-        check_open(&rt, &first, Round::Update, 0, old, [0; 32], open);
-        check_open(&rt, &second, Round::Update, 0, old, [0; 32], other_open);
+        check_open(&rt, &first, 0, Moment(Round::Update, old, [0; 32]), open);
+        check_open(
+            &rt,
+            &second,
+            0,
+            Moment(Round::Update, old, [0; 32]),
+            other_open,
+        );
     }
 }
 
@@ -83,74 +95,28 @@ fn given(rt: HostRuntime) {
     check_gives(
         &rt,
         &first,
-        Round::Initial,
         1,
-        [0; 32],
-        [0; 32],
+        Moment(Round::Initial, [0; 32], [0; 32]),
         &[(0, 0), (1, 1), (2, 0), (3, 0)],
     );
-    // a request, an entry, a leave and a sleep
-    check_gives(
-        &rt,
-        &first,
-        Round::Update,
-        0,
-        at(0, 0, 1, 1),
-        [0; 32],
-        &[(0, 1), (1, 1), (2, 0)],
-    );
-    check_gives(
-        &rt,
-        &first,
-        Round::Update,
-        1,
-        at(1, 1, 0, 0),
-        [0; 32],
-        &[(0, 2), (1, 1)],
-    );
-    check_gives(
-        &rt,
-        &first,
-        Round::Update,
-        2,
-        at(2, 1, 0, 0),
-        [0; 32],
-        &[(0, 0), (1, 1)],
-    );
-    check_gives(
-        &rt,
-        &first,
-        Round::Update,
-        3,
-        at(2, 1, 0, 0),
-        [0; 32],
-        &[(0, 2), (1, 1)],
-    );
-    check_gives(
-        &rt,
-        &second,
-        Round::Update,
-        0,
-        at(1, 1, 0, 1),
-        [0; 32],
-        &[(2, 1), (3, 0), (0, 0)],
-    );
-    check_gives(
-        &rt,
-        &second,
-        Round::Update,
-        1,
-        at(1, 1, 1, 1),
-        [0; 32],
-        &[(2, 2), (3, 1)],
-    );
-    check_gives(
-        &rt,
-        &second,
-        Round::Update,
-        3,
-        at(1, 1, 2, 0),
-        [0; 32],
-        &[(2, 2), (3, 0)],
-    );
+    // by old state: what an update choice gives
+    let cases: [(&Table, u8, State, &[(u8, i16)]); 7] = [
+        // a request, an entry, a leave and a sleep
+        (&first, 0, at(0, 0, 1, 1), &[(0, 1), (1, 1), (2, 0)]),
+        (&first, 1, at(1, 1, 0, 0), &[(0, 2), (1, 1)]),
+        (&first, 2, at(2, 1, 0, 0), &[(0, 0), (1, 1)]),
+        (&first, 3, at(2, 1, 0, 0), &[(0, 2), (1, 1)]),
+        (&second, 0, at(1, 1, 0, 1), &[(2, 1), (3, 0), (0, 0)]),
+        (&second, 1, at(1, 1, 1, 1), &[(2, 2), (3, 1)]),
+        (&second, 3, at(1, 1, 2, 0), &[(2, 2), (3, 0)]),
+    ];
+    for (table, choice, old, given) in cases {
+        check_gives(
+            &rt,
+            table,
+            choice,
+            Moment(Round::Update, old, [0; 32]),
+            given,
+        );
+    }
 }

@@ -1,12 +1,12 @@
 // Tables as long as they may be, and faults at the last places that they can have.
 use crate::asking::check_fault;
-use crate::building::{LastGuard, push_all, push_long_table};
+use crate::building::{LastGuard, long_table};
 use std::test::Fail;
 
 // The table with this byte at a place, if it has that place.
-fn change(bytes: &mut Vec<u8>, place: usize, byte: u8) {
-    if place < bytes.len() {
-        bytes[place] = byte;
+fn change(bytes: &mut [u8], place: usize, byte: u8) {
+    if let Some(changed) = bytes.get_mut(place) {
+        *changed = byte;
     }
 }
 
@@ -30,8 +30,7 @@ const THIRTEEN_SHORTER: LastGuard = LastGuard {
 
 #[test]
 fn longest_table(rt: HostRuntime) -> Result<(), Fail> {
-    let mut bytes = Vec::new(rt.alloc());
-    push_long_table(&mut bytes, 2, WHOLE)?;
+    let mut bytes = long_table(rt.alloc(), 2, WHOLE)?;
     assert_eq!(rt; bytes.len(), 4096);
     check_fault(&rt, bytes.as_slice(), 0, 0);
     // the last number needs a byte more than there is
@@ -48,8 +47,7 @@ fn longest_table(rt: HostRuntime) -> Result<(), Fail> {
 
 #[test]
 fn left_over_at_the_last_place(rt: HostRuntime) -> Result<(), Fail> {
-    let mut bytes = Vec::new(rt.alloc());
-    push_long_table(&mut bytes, 2, ONE_SHORTER)?;
+    let mut bytes = long_table(rt.alloc(), 2, ONE_SHORTER)?;
     check_fault(&rt, bytes.as_slice(), 0, 0);
     bytes.push(0)?;
     check_fault(&rt, bytes.as_slice(), 6, 4095);
@@ -58,9 +56,8 @@ fn left_over_at_the_last_place(rt: HostRuntime) -> Result<(), Fail> {
 
 #[test]
 fn wrong_count_at_the_last_place(rt: HostRuntime) -> Result<(), Fail> {
-    let mut bytes = Vec::new(rt.alloc());
-    push_long_table(&mut bytes, 3, THIRTEEN_SHORTER)?;
-    push_all(&mut bytes, &[0, 0, 0, 1, 0, 0, 0, 0, 0, 0, 0, 0, 9])?;
+    let mut bytes = long_table(rt.alloc(), 3, THIRTEEN_SHORTER)?;
+    bytes.extend_from_slice(&[0, 0, 0, 1, 0, 0, 0, 0, 0, 0, 0, 0, 9])?;
     check_fault(&rt, bytes.as_slice(), 4, 4095);
     Ok(())
 }
@@ -70,7 +67,7 @@ fn last_variable(rt: HostRuntime) -> Result<(), Fail> {
     let mut bytes = Vec::new(rt.alloc());
     bytes.push(32)?;
     for name in 0..32u8 {
-        push_all(&mut bytes, &[name, 1, 1])?;
+        bytes.extend_from_slice(&[name, 1, 1])?;
     }
     bytes.push(0)?;
     check_fault(&rt, bytes.as_slice(), 0, 0);

@@ -36,10 +36,9 @@ faults_discrete (Some f) (Some g) = by_number (ℕ_discrete f.number g.number) (
 pub faults_set : IsSet (Option Fault)
 faults_set = hedberg faults_discrete
 
-pub whole_unit_prop : (drawing : Type 0) → IsProp drawing → (m : Meaning) (c : Core) → IsProp (WholeUnit drawing m c)
-whole_unit_prop drawing once m c a b = λ i.
+pub whole_unit_prop : (m : Meaning) (c : Core) → IsProp (WholeUnit m c)
+whole_unit_prop m c a b = λ i.
     record {
-      drawing_whole = once a.drawing_whole b.drawing_whole i;
       judged = faults_set _ _ a.judged b.judged i;
       ordered = ∥∥₁_prop a.ordered b.ordered i;
       came = ∥∥₁_prop a.came b.came i;

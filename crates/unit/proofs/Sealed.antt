@@ -1,18 +1,20 @@
 -- What a verdict tells of the drawing that was sealed. Assumes nothing.
-use Rattle.std.proofs.Common.{◌≡◌, ℕ, Bool, false, [], Some, None, Option, sym, refl, ap, ◌∙◌, subst}
-use Rattle.model.specs.Meanings.{Meaning}
+use Rattle.std.proofs.Common.{◌≡◌, ℕ, Bool, false, List, [], map, replicate, Some, None, Option, sym, refl, ap, ◌∙◌, subst}
+use Rattle.model.specs.Meanings.{OutlineFacts, Meaning}
 use Rattle.model.specs.declared.Fault.{Fault}
+use Rattle.model.specs.Rows.{listed}
+use Rattle.model.specs.declared.row.Row.{Row}
 use Rattle.units.specs.Sealing.{verdict, if_so, ◌else◌}
 use Rattle.units.specs.Life.{Came, by_seal}
 use Rattle.units.specs.Units.{verdict_with, verdict_of, seal}
 use Rattle.units.proofs.Evidence.{else_parts}
 use Rattle.reactive.proofs.Fit.{passed, fit_exactly}
 use Rattle.reactive.proofs.Rounds.{fit_initial, fit_rounds}
-use Rattle.order.specs.Orders.{NoneCircular}
+use Rattle.order.specs.Orders.{AtomsInOrder, NoneCircular}
 use Rattle.unit.specs.Kept.{OrderKept, WholeUnit}
-use Rattle.unit.specs.Models.{claims_of, model_of, fresh}
+use Rattle.unit.specs.Models.{claim_of, model_of, fresh}
 use Rattle.unit.specs.Promises.{SealedRightly}
-use Rattle.unit.specs.declared.claims.Claims.{Claims}
+use Rattle.unit.specs.declared.claims.Claim.{Claim}
 use Rattle.unit.specs.declared.kept.Core.{Core}
 
 pub drawing_fit : (m : Meaning) (crowded : Bool) → verdict_with m crowded ≡ None → verdict m ≡ None
@@ -25,13 +27,19 @@ pub else_none : (v : Option Fault) → (v else None) ≡ v
 else_none None = refl
 else_none (Some f) = refl
 
-pub sealed_model : (m : Meaning) (number : ℕ) (c : Core) (none : Claims) → claims_of none ≡ [] → model_of m c ≡ fresh m number 0 false (claims_of none) → model_of m c ≡ seal m number
-sealed_model m number c none e told = told ∙ ap (fresh m number 0 false) e
+-- the order that is kept of a fit drawing, and of an unfit one
+pub kept_fit : (v : Option Fault) (o : OutlineFacts) (order : List ℕ) → v ≡ None → AtomsInOrder o order → OrderKept v o order
+kept_fit v o order e h = subst (λ w. OrderKept w o order) (sym e) h
+
+pub kept_unfit : (v : Option Fault) (o : OutlineFacts) (order : List ℕ) (f : Fault) → v ≡ Some f → order ≡ replicate 16 0 → OrderKept v o order
+kept_unfit v o order f e h = subst (λ w. OrderKept w o order) (sym e) h
+
+pub sealed_model : (m : Meaning) (number : ℕ) (c : Core) (none : Row Claim 8) → listed none ≡ [] → model_of m c ≡ fresh m number 0 false (map claim_of (listed none)) → model_of m c ≡ seal m number
+sealed_model m number c none e told = told ∙ ap (λ cs. fresh m number 0 false (map claim_of cs)) e
 
 -- a sealed unit keeps what every unit keeps
-pub sealed_whole : (drawing : Type 0) → drawing → (m : Meaning) (number : ℕ) (c : Core) → model_of m c ≡ seal m number → c.verdict ≡ verdict_with m false → OrderKept c.verdict m.outline c.order → WholeUnit drawing m c
-sealed_whole drawing held m number c told judged ordered = record {
-  drawing_whole = held;
+pub sealed_whole : (m : Meaning) (number : ℕ) (c : Core) → model_of m c ≡ seal m number → c.verdict ≡ verdict_with m false → OrderKept c.verdict m.outline c.order → WholeUnit m c
+sealed_whole m number c told judged ordered = record {
   judged = judged ∙ sym (ap verdict_of told);
   ordered = ∣ ordered ∣₁;
   came = ∣ subst Came (sym told) (by_seal m number) ∣₁;

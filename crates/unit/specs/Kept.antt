@@ -1,34 +1,21 @@
 -- What every unit keeps from the call that made it on. Assumes nothing.
-use Rattle.std.specs.Prelude.{◌≡◌, ℕ, Bool, List, replicate, Some, None, Option}
+use Rattle.std.specs.Prelude.{◌≡◌, ℕ, List, replicate, Some, None, Option}
 use Rattle.model.specs.Meanings.{OutlineFacts, Meaning}
 use Rattle.model.specs.declared.Fault.{Fault}
 use Rattle.order.specs.Orders.{AtomsInOrder}
-use Rattle.unit.specs.Models.{claims_of, model_of}
-use Rattle.unit.specs.declared.claims.Claims.{Claims}
+use Rattle.unit.specs.Models.{model_of}
 use Rattle.unit.specs.declared.kept.Core.{Core}
-use Rattle.unit.specs.declared.phase.Phase.TheVariants.{Idle}
 use Rattle.units.specs.Life.{Came}
-use Rattle.units.specs.Units.{kept_claims, verdict_of}
+use Rattle.units.specs.Units.{verdict_of}
 
 -- the order of the atoms that is kept: on a fit unit each once and after those that it awaits, else zeros
 abbrev pub OrderKept : Option Fault → OutlineFacts → List ℕ → Type 0
 OrderKept None o order = AtomsInOrder o order
 OrderKept (Some f) o order = order ≡ replicate 16 0
 
--- what the parts of a core are that is made anew
-pub record CoreMade (number rounds : ℕ) (crowded : Bool) (verdict : Option Fault) (claims : Claims) (order : List ℕ) (c : Core) : Type 0 where
-  pub number_is : c.number ≡ number
-  pub rounds_is : c.rounds ≡ rounds
-  pub crowded_is : c.crowded ≡ crowded
-  pub verdict_is : c.verdict ≡ verdict
-  pub order_is : c.order ≡ order
-  pub phase_is : c.phase ≡ Idle
-  pub claims_are : claims_of c.claims ≡ kept_claims verdict (claims_of claims)
-
--- A unit whose drawing means m and that keeps c. The drawing is whole, the verdict kept is that on the unit's model, the order of
--- the atoms is right, and the unit can have come from the site. How it came is not kept, so that a container can keep the fact.
-pub record WholeUnit (drawing : Type 0) (m : Meaning) (c : Core) : Type 0 where
-  pub drawing_whole : drawing
+-- A unit whose drawing means m and that keeps c. The verdict kept is that on the unit's model, the order of the atoms is right, and
+-- the unit can have come from the site. How it came is not kept, so that a type can keep the fact.
+pub record WholeUnit (m : Meaning) (c : Core) : Type 0 where
   pub judged : c.verdict ≡ verdict_of (model_of m c)
   pub ordered : ∥ OrderKept c.verdict m.outline c.order ∥₁
   pub came : ∥ Came (model_of m c) ∥₁

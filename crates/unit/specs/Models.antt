@@ -1,10 +1,12 @@
 -- The unit that a core stands for, beside what its drawing means. Assumes nothing.
-use Rattle.std.specs.Prelude.{ℕ, Bool, List, map, take}
+use Rattle.std.specs.Prelude.{ℕ, Bool, List, [], map, Some, None, Option}
+use Rattle.std.specs.Option.{is_none}
 use Rattle.expression.specs.Evaluation.{everything}
 use Rattle.language.specs.Expressions.{Truth, negation, always, Reading, good, bad, whole_truth}
 use Rattle.model.specs.Meanings.{Meaning}
+use Rattle.model.specs.Rows.{listed}
+use Rattle.model.specs.declared.row.Row.{Row}
 use Rattle.unit.specs.declared.claims.Claim.{Claim}
-use Rattle.unit.specs.declared.claims.Claims.{Claims}
 use Rattle.unit.specs.declared.claims.Mark.{Mark}
 use Rattle.unit.specs.declared.claims.Mark.TheVariants.{Open, Held, Broken}
 use Rattle.unit.specs.declared.kept.Core.{Core}
@@ -18,10 +20,6 @@ mark_of Open = open_mark
 mark_of Held = held
 mark_of Broken = broken
 
--- the bytes of the claim
-abbrev pub written : Claim → List ℕ
-written c = take c.long c.bytes
-
 -- what was read, or else what is never true
 abbrev pub truth_of : Reading Truth → Truth
 truth_of (good p end) = p
@@ -29,10 +27,12 @@ truth_of (bad place) = negation always
 
 -- A claim says what its bytes are.
 abbrev pub claim_of : Claim → units.Claim
-claim_of c = record { says = truth_of (whole_truth 8 everything (written c)); mark = mark_of c.mark }
+claim_of c = record { says = truth_of (whole_truth 8 everything (listed c.bytes)); mark = mark_of c.mark }
 
-abbrev pub claims_of : Claims → List units.Claim
-claims_of cs = map claim_of (take cs.count cs.row)
+-- the claims that a unit has; one that was joined with more than it can carry has none
+abbrev pub claims_of : Option (Row Claim 8) → List units.Claim
+claims_of None = []
+claims_of (Some cs) = map claim_of (listed cs)
 
 abbrev pub phase_of : Phase → units.Phase
 phase_of Idle = idle
@@ -44,7 +44,7 @@ model_of m c = record {
   meaning = m;
   number = c.number;
   rounds = c.rounds;
-  crowded = c.crowded;
+  crowded = is_none c.claims;
   claims = claims_of c.claims;
   phase = phase_of c.phase;
 }

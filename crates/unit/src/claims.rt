@@ -1,7 +1,5 @@
 // The claims on a unit.
-ghost use Rattle.std.specs.Prelude.{◌≡◌, ◌≤◌, length};
-
-mod methods;
+use model::Row;
 
 // What evidence has shown of a claim.
 #[derive(Clone, Copy, PartialEq, Eq, Debug)]
@@ -11,21 +9,12 @@ pub enum Mark {
     Broken,
 }
 
-// A claim as it was written, so many of the bytes, and its mark.
+// A claim as it was written, and its mark.
 #[derive(Clone, Copy)]
 pub struct Claim {
-    bytes: [u8; 64],
-    long: u8,
-    mark: Mark,
-    ghost full: { length bytes ≡ 64 },
-    ghost short: { long ≤ 64 },
+    pub bytes: Row<u8, 64>,
+    pub mark: Mark,
 }
 
 // Up to eight claims.
-#[derive(Clone, Copy)]
-pub struct Claims {
-    row: [Claim; 8],
-    count: u8,
-    ghost full: { length row ≡ 8 },
-    ghost few: { count ≤ 8 },
-}
+pub type Claims = Row<Claim, 8>;

@@ -4,7 +4,6 @@
 mod claims;
 mod kept;
 mod phase;
-mod sealing;
 mod unit;
 
 pub use unit::Unit;

@@ -3,55 +3,92 @@ ghost use Rattle.unit.specs.Kept.{OrderKept, WholeUnit, verdict_told};
 ghost use Rattle.unit.specs.Models.{model_of, claims_of, fresh};
 ghost use Rattle.unit.specs.Promises.{SealedRightly, ZeroWhenFit};
 ghost use Rattle.units.specs.Units.{seal, verdict_of, verdict_with};
-ghost use Rattle.std.specs.Prelude.{◌≡◌};
+ghost use Rattle.std.specs.Prelude.{◌≡◌, []};
+ghost use Rattle.model.specs.Rows.{listed};
+ghost use Rattle.std.specs.Option.{is_none};
 
-use crate::claims::Claims;
+use crate::claims::{Claim, Claims, Mark};
 use crate::kept::Core;
-use crate::sealing::{order_with, verdict_with};
-use drawing::{Drawing, Outline};
+use crate::phase::Phase;
+use drawing::Drawing;
+use fitness::judge;
+use model::{Fault, Row};
+use order::order_of;
 
+// The number of the refusal of a unit that was joined with more than eight claims.
+const CROWDED: u8 = 37;
+
+// What is kept is the verdict on the drawing and the claims, and the unit can have come from the site.
 #[derive(Drop)]
-pub struct Unit<D> {
+pub struct Unit<D: Drawing> {
     drawing: D,
     core: Core,
+    ghost whole: { WholeUnit (D.Drawing.meaning drawing) core },
 }
 
-// A unit made anew, idle, of a drawing and the claims brought with it, crowded if they were more than eight.
-fn made<D: Drawing>(drawing: D, number: u32, rounds: u32, crowded: bool, claims: Claims) -> Unit<D>
-    requires { D.Outline.whole drawing }
-    ensures kept { result.drawing ≡ drawing }
-    ensures told { model_of (D.Drawing.meaning drawing) result.core ≡ fresh (D.Drawing.meaning drawing) number rounds crowded (claims_of claims) }
-    ensures judged { result.core.verdict ≡ verdict_with (D.Drawing.meaning drawing) crowded }
-    ensures ordered { OrderKept result.core.verdict (D.Drawing.meaning drawing).outline result.core.order }
+// No claims, of the eight that there may be.
+fn no_claims() -> Claims
+    ensures { listed result ≡ [] }
 {
-    let verdict = verdict_with(&drawing, crowded);
-    let order = order_with(&drawing, crowded, verdict);
-    let core = Core::new(number, rounds, crowded, verdict, claims, order);
-    Unit { drawing, core }
+    Row::empty(Claim {
+        bytes: Row::empty(0),
+        mark: Mark::Open,
+    })
+}
+
+// The verdict on a drawing, with more than eight claims brought to it or not.
+fn verdict_with<D: Drawing>(drawing: &D, crowded: bool) -> Option<Fault>
+    ensures { result ≡ verdict_with (D.Drawing.meaning drawing.now) crowded }
+{
+    judge(drawing).or_else(|| crowded.then(|| Fault::own(CROWDED, 0)))
+}
+
+// What a unit made anew keeps beside a drawing and the claims brought to it, which are None if they were more than eight. It is
+// idle, and an unfit one has no claims.
+fn made<D: Drawing>(drawing: &D, number: u32, rounds: u32, claims: Option<Claims>) -> Core
+    ensures told { model_of (D.Drawing.meaning drawing.now) result ≡ fresh (D.Drawing.meaning drawing.now) number rounds (is_none claims) (claims_of claims) }
+    ensures judged { result.verdict ≡ verdict_with (D.Drawing.meaning drawing.now) (is_none claims) }
+    ensures ordered { OrderKept result.verdict (D.Drawing.meaning drawing.now).outline result.order }
+{
+    let verdict = verdict_with(drawing, claims.is_none());
+    let (claims, order) = match verdict {
+        None => (claims, order_of(drawing)),
+        Some(_) => (claims.map(|_| no_claims()), [0; 16]),
+    };
+    Core {
+        number,
+        rounds,
+        verdict,
+        phase: Phase::Idle,
+        claims,
+        order,
+    }
 }
 
 impl<D: Drawing> Unit<D> {
     // Seals any drawing. An unfit one still makes a unit, which tells what is wrong.
     pub fn seal(drawing: D, number: u32) -> Unit<D>
-        requires { D.Outline.whole drawing }
         ensures kept { result.drawing ≡ drawing }
         ensures told { model_of (D.Drawing.meaning result.drawing) result.core ≡ seal (D.Drawing.meaning drawing) number }
-        ensures whole { WholeUnit (D.Outline.whole result.drawing) (D.Drawing.meaning result.drawing) result.core }
         ensures rightly { SealedRightly (D.Drawing.meaning result.drawing) result.core }
     {
-        made(drawing, number, 0, false, Claims::none())
+        let core = made(&drawing, number, 0, Some(no_claims()));
+        Unit { drawing, core }
     }
 
-    // What is wrong with the unit: number, layer and place, 0 when fit.
+    // What is wrong with the unit, if anything.
+    pub fn fault(&self) -> Option<Fault>
+        ensures { result ≡ verdict_of (model_of (D.Drawing.meaning self.now.drawing) self.now.core) }
+    {
+        self.core.verdict
+    }
+
+    // The same as number, layer and place, 0 when fit.
     pub fn verdict(&self) -> (u8, u8, u16)
-        requires { WholeUnit (D.Outline.whole self.now.drawing) (D.Drawing.meaning self.now.drawing) self.now.core }
         ensures told { result ≡ verdict_told (verdict_of (model_of (D.Drawing.meaning self.now.drawing) self.now.core)) }
         ensures zero { ZeroWhenFit (verdict_of (model_of (D.Drawing.meaning self.now.drawing) self.now.core)) }
     {
-        match self.core.verdict {
-            Some(fault) => (fault.number, fault.layer, fault.place),
-            None => (0, 0, 0),
-        }
+        self.fault().map_or((0, 0, 0), |fault| (fault.number, fault.layer, fault.place))
     }
 
     // The number that the unit was sealed with.

@@ -2,7 +2,6 @@
 ghost use Rattle.std.specs.Prelude.{◌≤◌};
 
 use crate::parts::seals;
-use drawing::{Drawing, Outline};
 use fitness::{outside_at, stuck_at};
 use model::Round;
 use sights::Sight;
@@ -14,11 +13,8 @@ fn externals(count: u8, top: u8) -> Table
 {
     let mut bytes = [0; 98];
     bytes[0] = count;
-    for name in 0..count {
-        let first = 3 * name as usize + 1;
-        bytes[first] = name;
-        bytes[first + 1] = 2;
-        bytes[first + 2] = top;
+    for (name, variable) in (0..count).zip(bytes[1..].chunks_exact_mut(3)) {
+        variable.copy_from_slice(&[name, 2, top]);
     }
     let size = 3 * count as usize + 2;
     Table::open(&bytes[..size])
@@ -94,10 +90,7 @@ fn control_and_choices(rt: HostRuntime) {
 
 // Is this an update at this old value of name 0?
 fn is_update_at(sight: Option<Sight>, old: u8) -> bool {
-    match sight {
-        Some(sight) => sight.round == Round::Update && sight.old[0] == old,
-        None => false,
-    }
+    sight.is_some_and(|sight| sight.round == Round::Update && sight.old[0] == old)
 }
 
 #[test]

@@ -1,15 +1,10 @@
 -- Products and counts over the numbers below a bound, and tests over lists. Assumes nothing.
-use Rattle.std.specs.Prelude.{ℕ, zero, suc, ◌+◌, ◌*◌, Bool, true, false, cond, ◌&&◌, ◌||◌, List, [], ◌∷◌, ◌==◌}
+use Rattle.std.specs.Prelude.{ℕ, zero, suc, ◌+◌, ◌*◌, Bool, true, false, ◌&&◌, ◌||◌, List, [], ◌∷◌, ◌==◌}
 
 -- the product of f k for each k below n
 unfoldable pub product : (ℕ → ℕ) → ℕ → ℕ
 product f zero = 1
 product f (suc n) = product f n * f n
-
--- how many numbers below n pass the test
-unfoldable pub count : (ℕ → Bool) → ℕ → ℕ
-count p zero = 0
-count p (suc n) = count p n + cond (p n) 1 0
 
 -- the sum of f over a list
 abbrev pub total : {X : Type 0} → (X → ℕ) → List X → ℕ

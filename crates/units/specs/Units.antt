@@ -5,12 +5,12 @@ use Rattle.composition.specs.Meanings.{renamed, hidden, joined}
 use Rattle.language.specs.Expressions.{Truth, Seen, Reading, good, bad, truth_value, truth_renamed, whole_truth}
 use Rattle.model.specs.Meanings.{Meaning, OutlineFacts}
 use Rattle.model.specs.States.{value, nothing}
-use Rattle.model.specs.Tests.{some, lowest}
+use Rattle.model.specs.Tests.{some, lowest, count}
 use Rattle.model.specs.declared.Fault.{Fault}
 use Rattle.model.specs.declared.Round.{Round}
 use Rattle.model.specs.declared.Round.TheVariants.{Initial, Update}
 use Rattle.theory.specs.Enumerations.{below}
-use Rattle.units.specs.Counting.{count, any}
+use Rattle.units.specs.Counting.{any}
 use Rattle.units.specs.Evidence.{states_in, wrong_size, certificate_refusal, certificate_count, run_refusal}
 use Rattle.units.specs.Sealing.{refusal, at_lowest, if_so, is_external, verdict, ◌else◌}
 

@@ -1,5 +1,5 @@
 -- One number more of `below` and `mask_below`. Assumes nothing.
-use Rattle.std.proofs.Common.{◌≡◌, ℕ, suc, ◌+◌, ◌*◌, ◌%◌, ◌^◌, ◌<◌, Bool, true, false, cond, List, [], ◌∷◌, ◌++◌, ℤ, Some, None, Option, sym, refl, ap, ◌∙◌, append-nil, mod-eq_of_lt, one-mul, pow-suc, add-one, arith}
+use Rattle.std.proofs.Common.{◌≡◌, ℕ, ◌+◌, ◌*◌, ◌%◌, ◌^◌, ◌<◌, Bool, true, false, cond, List, [], ◌∷◌, ◌++◌, ℤ, Some, None, sym, refl, ap, ◌∙◌, append-nil, mod-eq_of_lt, one-mul, pow-suc, add-one, arith}
 use lib.Pow.{pow-lt}
 use Rattle.model.specs.Meanings.{OutlineFacts, ChoiceFacts}
 use Rattle.model.specs.States.{value}
@@ -7,7 +7,6 @@ use Rattle.model.specs.declared.Kind.{Kind}
 use Rattle.wording.specs.Told.{below, mask_below, variable_of, variable_at, assignment_at}
 use Rattle.wording.specs.declared.ask.Assignment.{Assignment}
 use Rattle.wording.specs.declared.ask.Question.{Question}
-use Rattle.wording.specs.declared.facts.Variable.{Variable}
 
 pub below_none : {X : Type 0} (f : ℕ → List X) → below f 0 ≡ []
 unfolding below

@@ -29,11 +29,6 @@ unfoldable pub mask_below : (ℕ → Bool) → ℕ → ℕ
 mask_below p zero = 0
 mask_below p (suc n) = mask_below p n + cond (p n) (2 ^ n) 0
 
-abbrev pub kind_number : Kind → ℕ
-kind_number Private = 0
-kind_number Interface = 1
-kind_number External = 2
-
 abbrev pub variable_of : ℕ → ℕ → Option Kind → List Variable
 variable_of n top None = []
 variable_of n top (Some kind) = record { name = n; kind = kind; top = top } ∷ []

@@ -2,10 +2,11 @@
 ghost use Rattle.wording.specs.Told.{Replies};
 ghost use Rattle.std.specs.Prelude.{IfOk};
 
-use crate::text::listed;
+use crate::text::Listed;
 use drawing::Drawing;
 use model::{Round, State};
 use std::alloc::{AllocError, Global};
+use std::fmt;
 
 #[derive(Clone, Copy)]
 pub struct Question {
@@ -31,7 +32,6 @@ pub struct Reply {
 
 // Whether the choice is open, and what it gives to each name that its atom controls, names rising.
 pub fn reply_to<D: Drawing>(heap: Global, drawing: &D, q: &Question) -> Result<Reply, AllocError>
-    requires { D.Outline.whole drawing.now }
     ensures { IfOk result (λ x. Replies (D.Outline.outline drawing.now) (D.Drawing.meaning drawing.now).acts q.now x) }
 {
     let open = drawing.is_open(q.round, q.atom, q.choice, q.old, q.new);
@@ -46,34 +46,31 @@ pub fn reply_to<D: Drawing>(heap: Global, drawing: &D, q: &Question) -> Result<R
     Ok(Reply { open, given })
 }
 
-fn values_field(heap: Global, given: &[Assignment]) -> Result<String, AllocError> {
-    let mut field = String::new(heap);
-    for g in given {
-        field.push_str(format!(in heap; " {}", g.value)?.as_str())?;
+// What is given, for people.
+impl fmt::Display for Assignment {
+    fn fmt<W: fmt::Write>(&self, f: &mut fmt::Formatter<W>) -> fmt::Result {
+        write!(f, "name {} := {}", self.name, self.value)
     }
-    Ok(field)
-}
-
-// What the choice gives, for people.
-fn given_text(heap: Global, given: &[Assignment]) -> Result<String, AllocError> {
-    let mut fields = Vec::new(heap);
-    for g in given {
-        fields.push(format!(in heap; "name {} := {}", g.name, g.value)?)?;
-    }
-    listed(heap, fields.as_slice(), ", ", "nothing")
 }
 
 // What is answered to `ask`.
-pub fn ask_text<D: Drawing>(heap: Global, drawing: &D, q: &Question) -> Result<String, AllocError>
-    requires { D.Outline.whole drawing.now }
-{
-    let reply = reply_to(heap, drawing, q)?;
-    let word = if reply.open { "open" } else { "closed" };
-    let verb = if reply.open { "gives" } else { "would give" };
-    let values = values_field(heap, reply.given.as_slice())?;
-    let given = given_text(heap, reply.given.as_slice())?;
-    format!(in heap;
-        "{word}{values} -- atom {}, choice {}, {verb} {given}",
-        q.atom, q.choice
-    )
+pub fn ask_text<D: Drawing>(heap: Global, drawing: &D, q: &Question) -> Result<String, AllocError> {
+    let Reply { open, given } = reply_to(heap, drawing, q)?;
+    let mut text = String::from_str(heap, if open { "open" } else { "closed" })?;
+    for g in &given {
+        write!(text, " {}", g.value)?;
+    }
+    write!(
+        text,
+        " -- atom {}, choice {}, {} {}",
+        q.atom,
+        q.choice,
+        if open { "gives" } else { "would give" },
+        Listed {
+            items: given.as_slice(),
+            mark: ", ",
+            none: "nothing",
+        }
+    )?;
+    Ok(text)
 }

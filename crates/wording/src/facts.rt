@@ -25,7 +25,6 @@ pub struct Atom {
 
 // The drawing's variables, names rising.
 pub fn variables<D: Outline>(heap: Global, drawing: &D) -> Result<Vec<Variable>, AllocError>
-    requires { D.Outline.whole drawing.now }
     ensures { IfOk result (λ v. v.items ≡ below (variable_at (D.Outline.outline drawing.now)) 32) }
 {
     let mut variables = Vec::new(heap);
@@ -39,7 +38,6 @@ pub fn variables<D: Outline>(heap: Global, drawing: &D) -> Result<Vec<Variable>,
 }
 
 pub fn atoms<D: Drawing>(heap: Global, drawing: &D) -> Result<Vec<Atom>, AllocError>
-    requires { D.Outline.whole drawing.now }
     ensures { IfOk result (λ v. DescribesAtoms (D.Outline.outline drawing.now) (D.Drawing.meaning drawing.now).acts v) }
 {
     let mut atoms = Vec::new(heap);

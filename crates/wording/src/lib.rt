@@ -5,6 +5,7 @@ mod ask;
 mod facts;
 mod opening;
 mod outline;
+mod rules;
 mod text;
 mod verdict;
 

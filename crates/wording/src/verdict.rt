@@ -1,6 +1,7 @@
 // What is answered to `verdict`.
-use crate::opening::fault_words;
-use crate::text::listed;
+use crate::opening::fault_numbers;
+use crate::rules::{Rule, Words};
+use crate::text::Listed;
 use drawing::{Drawing, Outline};
 use fitness::{outside_at, stuck_at};
 use model::{Fault, Names, Round, State, value_of};
@@ -15,10 +16,8 @@ fn add_values(
     names: &Names,
     values: State,
 ) -> Result<(), AllocError> {
-    for name in 0..32u8 {
-        if names.has(name) {
-            fields.push(format!(in heap; "{word} {name} = {}", value_of(values, name))?)?;
-        }
+    for name in (0..32u8).filter(|name| names.has(*name)) {
+        fields.push(format!(in heap; "{word} {name} = {}", value_of(values, name))?)?;
     }
     Ok(())
 }
@@ -29,9 +28,7 @@ fn sight_words<D: Outline>(
     drawing: &D,
     atom: u8,
     sight: &Sight,
-) -> Result<String, AllocError>
-    requires { D.Outline.whole drawing.now }
-{
+) -> Result<String, AllocError> {
     let mut fields = Vec::new(heap);
     let round = match sight.round {
         Round::Initial => "initialization",
@@ -41,22 +38,20 @@ fn sight_words<D: Outline>(
         }
     };
     add_values(heap, &mut fields, "new", &drawing.awaits(atom), sight.new)?;
-    let values = listed(heap, fields.as_slice(), ", ", "whatever values")?;
+    let values = Listed {
+        items: fields.as_slice(),
+        mark: ", ",
+        none: "whatever values",
+    };
     format!(in heap; " in an {round} round at {values}")
 }
 
 // At which values an atom fails, where that is what is wrong.
-fn where_words<D: Drawing>(
-    heap: Global,
-    drawing: &D,
-    number: u8,
-    atom: u8,
-) -> Result<String, AllocError>
-    requires { D.Outline.whole drawing.now }
-{
-    let found = match number {
-        15 => stuck_at(drawing, atom),
-        16 => outside_at(drawing, atom),
+fn where_words<D: Drawing>(heap: Global, drawing: &D, fault: Fault) -> Result<String, AllocError> {
+    let atom = fault.place.min(16) as u8;
+    let found = match Rule::try_from(fault.number) {
+        Ok(Rule::OpenChoice) => stuck_at(drawing, atom),
+        Ok(Rule::Range) => outside_at(drawing, atom),
         _ => None,
     };
     match found {
@@ -70,23 +65,15 @@ pub fn verdict_text<D: Drawing>(
     heap: Global,
     name: &str,
     drawing: &D,
-    verdict: (u8, u8, u16),
-) -> Result<String, AllocError>
-    requires { D.Outline.whole drawing.now }
-{
-    let (number, layer, place) = verdict;
-    if number == 0 {
-        return format!(in heap; "{number} {layer} {place} -- unit {name} is fit");
-    }
-    let words = fault_words(
-        heap,
-        Fault {
-            number,
-            layer,
-            place,
-        },
-    )?;
-    let atom = if place < 16 { place as u8 } else { 16 };
-    let values = where_words(heap, drawing, number, atom)?;
-    format!(in heap; "{number} {layer} {place} -- unit {name} is not fit: {words}{values}")
+    verdict: Option<Fault>,
+) -> Result<String, AllocError> {
+    let numbers = fault_numbers(heap, verdict)?;
+    let Some(fault) = verdict else {
+        return format!(in heap; "{numbers} -- unit {name} is fit");
+    };
+    let values = where_words(heap, drawing, fault)?;
+    format!(in heap;
+        "{numbers} -- unit {name} is not fit: {}{values}",
+        Words(fault)
+    )
 }

@@ -1,116 +1,101 @@
-ghost use Rattle.std.specs.Prelude.{◌≡◌, ◌+◌, ◌*◌, ◌<◌, ◌≤◌, ◌&&◌, length, Some};
+// Opening a gate list, record by record.
+ghost use Rattle.std.specs.Prelude.{◌≡◌, ◌+◌, ◌*◌, ◌<◌, ◌≤◌, ◌↔◌, length, IsTrue};
 ghost use Rattle.gates.specs.Behaviour.{GatesWork};
 ghost use Rattle.gates.specs.Drawn.{meaning_of};
-ghost use Rattle.gates.specs.GateLists.{byte, gate_at, is_latch, same_out, same_own, breaks, faulty, opened, parts_upto};
-ghost use Rattle.gates.specs.Readings.{reading, Judged};
-ghost use Rattle.gates.specs.Rows.{listed};
-ghost use Rattle.model.specs.Tests.{some};
+ghost use Rattle.gates.specs.GateLists.{opened};
+ghost use Rattle.gates.specs.Gates.{parts_of};
+ghost use Rattle.gates.specs.Readings.{found, reading};
+ghost use Rattle.gates.specs.Records.{one_out, shares, has_own, Found, Clashes};
+ghost use Rattle.gates.specs.Rows.{Grown};
 
 use super::GateList;
-use crate::gate::Gate;
-use crate::parts::Parts;
+use crate::gate::{Gate, Part};
+use model::{Full, Row};
 
 // Does an earlier record have the out of this one?
-fn out_taken(bytes: &[u8], index: usize) -> bool
-    requires { 5 * index + 5 ≤ length bytes.now }
-    ensures { result ≡ some (same_out bytes.now index) index }
+fn out_taken(records: &[[u8; 5]], index: usize) -> bool
+    requires { index < length records.now }
+    ensures { IsTrue result ↔ Found (one_out records.now index) index }
 {
-    let out = bytes[5 * index + 3];
-    for earlier in 0..index {
-        if bytes[5 * earlier + 3] == out {
-            return true;
-        }
-    }
-    false
+    let out = records[index][3];
+    records[..index].iter().any(|earlier| earlier[3] == out)
 }
 
-// Is the byte at k a field of the list, other than this record's own and with the same number in it?
-fn shares_own(bytes: &[u8], index: usize, k: usize) -> bool
-    requires inside { 5 * index + 5 ≤ length bytes.now }
-    requires listed { k < length bytes.now }
-    ensures { result ≡ same_own bytes.now index k }
+// Is the number in a field of the record? Its own counts only where another record asks.
+#[tactic(auto, unfolding(crate::specs::Records::shares))]
+fn shares(fields: &[u8; 5], own: u8, by_another: bool) -> bool
+    ensures { result ≡ shares fields.now own by_another }
 {
-    let place = 5 * index + 4;
-    k % 5 != 0 && k != place && bytes[k] == bytes[place]
+    let [_, a, b, out, kept] = *fields;
+    [a, b, out].contains(&own) || by_another && kept == own
 }
 
 // Does some other field of the list, earlier or later, have the own of this record?
-fn own_shared(bytes: &[u8], index: usize) -> bool
-    requires { 5 * index + 5 ≤ length bytes.now }
-    ensures { result ≡ some (same_own bytes.now index) (length bytes.now) }
+fn own_shared(records: &[[u8; 5]], index: usize) -> bool
+    requires { index < length records.now }
+    ensures { IsTrue result ↔ Found (has_own records.now index) (length records.now) }
 {
-    for k in 0..bytes.len() {
-        if shares_own(bytes, index, k) {
-            return true;
-        }
-    }
-    false
+    let own = records[index][4];
+    records
+        .iter()
+        .enumerate()
+        .any(|(other, record)| shares(record, own, other != index))
 }
 
-// Is the record a latch whose own is not its own?
-fn own_clashes(bytes: &[u8], index: usize, gate: Gate) -> bool
-    requires { 5 * index + 5 ≤ length bytes.now }
-    ensures { result ≡ (is_latch (Some gate) && some (same_own bytes.now index) (length bytes.now)) }
+// Does an earlier record have the record's out, or is it a latch whose own is not its own?
+fn clashes(records: &[[u8; 5]], index: usize, gate: Gate) -> bool
+    requires { index < length records.now }
+    ensures { IsTrue result ↔ Clashes records.now index gate }
+{
+    out_taken(records, index) || matches!(gate, Gate::Latch { .. }) && own_shared(records, index)
+}
+
+// Adds the atoms of the gate, if there is room for all of them.
+fn add(parts: &mut Row<Part, 16>, gate: Gate) -> Result<(), Full>
+    ensures { Grown parts.old (parts_of gate) parts.new result }
 {
     match gate {
-        Gate::Latch { .. } => own_shared(bytes, index),
-        Gate::Not { .. } | Gate::And { .. } => false,
+        Gate::Not { a, out } => parts.push(Part::Inverter { a, out }),
+        Gate::And { a, b, out } => parts.push(Part::Conjunction { a, b, out }),
+        Gate::Latch {
+            set,
+            reset,
+            out,
+            own,
+        } => {
+            parts.push(Part::LatchOutput { out, own })?;
+            parts.push(Part::LatchStore { set, reset, own })
+        }
     }
 }
 
-// The atoms with those of this record's gate, unless the record breaks a rule.
-fn judge(bytes: &[u8], index: usize, gate: Option<Gate>, parts: Parts) -> Option<Parts>
-    requires inside { 5 * index + 5 ≤ length bytes.now }
-    requires described { gate ≡ gate_at bytes.now index }
-    requires earlier { listed parts ≡ parts_upto bytes.now index }
-    ensures { Judged bytes.now index result }
+// The atoms of all records, or the place of the first that breaks a rule.
+fn read(bytes: &[u8]) -> Result<Row<Part, 16>, u16>
+    ensures { found result ≡ opened bytes.now }
 {
-    let gate = gate?;
-    if out_taken(bytes, index) {
-        return None;
+    let (records, rest) = bytes.as_chunks::<5>();
+    if !rest.is_empty() {
+        return Err(0);
     }
-    if own_clashes(bytes, index, gate) {
-        return None;
+    let mut parts = Row::empty(Part::Inverter { a: 0, out: 0 });
+    for (index, record) in records.iter().enumerate() {
+        let place = 5 * (index as u16);
+        let Ok(gate) = Gate::try_from(*record) else {
+            return Err(place);
+        };
+        if clashes(records, index, gate) || add(&mut parts, gate).is_err() {
+            return Err(place);
+        }
     }
-    parts.with_gate(gate)
+    Ok(parts)
 }
 
 impl GateList {
-    fn faulty(place: u16) -> GateList
-        ensures { reading result ≡ faulty place }
-    {
-        GateList {
-            wrong: Some(place),
-            parts: Parts::none(),
-        }
-    }
-
-    fn read(bytes: &[u8]) -> GateList
-        ensures { reading result ≡ opened bytes.now }
-    {
-        if bytes.len() % 5 != 0 {
-            return GateList::faulty(0);
-        }
-        let mut parts = Parts::none();
-        let mut rest = bytes;
-        let mut index: usize = 0;
-        while let [kind, a, b, out, own, later @ ..] = rest {
-            let gate = Gate::read(*kind, *a, *b, *out, *own);
-            let Some(more) = judge(bytes, index, gate, parts) else {
-                return GateList::faulty(5 * (index as u16));
-            };
-            parts = more;
-            rest = later;
-            index += 1;
-        }
-        GateList { wrong: None, parts }
-    }
-
     // Opens any bytes. A fault still makes a list, which tells it and has no atoms.
     pub fn open(bytes: &[u8]) -> GateList
         ensures opened { reading result ≡ opened bytes.now }
         ensures works { GatesWork bytes.now (meaning_of result) }
     {
-        GateList::read(bytes)
+        GateList { found: read(bytes) }
     }
 }

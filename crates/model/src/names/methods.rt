@@ -1,5 +1,6 @@
-ghost use Rattle.std.specs.Prelude.{◌≡◌, ℕ, false, ◌||◌};
+ghost use Rattle.std.specs.Prelude.{◌≡◌, ◌<◌, ℕ, Bool, false, ◌||◌, ◌&&◌, nat_lt};
 ghost use Rattle.model.specs.Sets.{has, is_name};
+ghost use Rattle.model.specs.Tests.{Answers};
 
 use super::Names;
 
@@ -19,6 +20,20 @@ impl Names {
             marks[name as usize] = true;
         }
         Names { marks }
+    }
+
+    // The names at which the test passes.
+    pub fn gather<F: Fn(u8) -> bool>(test: F) -> Names
+        requires { (k : ℕ) → k < 32 → F.pre test k }
+        ensures { (p : ℕ → Bool) → Answers (F.post test) p 32 → (n : ℕ) → has result n ≡ (nat_lt n 32 && p n) }
+    {
+        let mut names = Names::none();
+        for name in 0..32 {
+            if test(name) {
+                names = names.with(name);
+            }
+        }
+        names
     }
 
     pub fn has(&self, name: u8) -> bool

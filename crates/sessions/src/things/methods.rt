@@ -1,12 +1,15 @@
+// What a name stands for: looked up, put and taken.
+#![tactic(auto, using(std::proofs::lemmas::Map::Text::text_keys))]
+
 ghost use Rattle.commands.specs.declared.mistake.Mistake.TheVariants.{UnknownName, NoMemory};
 ghost use Rattle.sessions.specs.Things.{meant, Nothing, Puts, Same, Stands, StandsSealed, Takes, TakenTwo};
-ghost use Rattle.sessions.specs.declared.drawn.Drawn.{Drawn};
+ghost use Rattle.any_drawing.specs.declared.AnyDrawing.{AnyDrawing};
 ghost use Rattle.std.specs.Prelude.{◌≡◌, IfOk, Some, None, string_bytes, MatchResult};
 
 use super::Things;
-use crate::drawn::Drawn;
 use crate::made::Made;
 use crate::sealed::Sealed;
+use any_drawing::AnyDrawing;
 use commands::Mistake;
 use std::alloc::Global;
 use std::collections::BTreeMap;
@@ -16,6 +19,7 @@ impl Things {
         ensures { Nothing result }
     {
         Things {
+            heap,
             map: BTreeMap::new(heap),
         }
     }
@@ -29,10 +33,7 @@ impl Things {
     pub fn get(&self, name: &str) -> Result<&Made, Mistake>
         ensures { MatchResult result (λ x. meant self.now name.now ≡ Some x.now) (λ e. (e ≡ UnknownName) × (meant self.now name.now ≡ None)) }
     {
-        match self.map.get(name) {
-            Some(thing) => Ok(thing),
-            None => Err(Mistake::UnknownName),
-        }
+        self.map.get(name).ok_or(Mistake::UnknownName)
     }
 
     // Lets the name stand for the thing, and no longer for what it stood for.
@@ -44,7 +45,7 @@ impl Things {
     }
 
     // The drawing that the name stands for.
-    pub fn drawing(&self, name: &str) -> Result<&Drawn, Mistake>
+    pub fn drawing(&self, name: &str) -> Result<&AnyDrawing, Mistake>
         ensures { IfOk result (λ d. Stands self.now name.now d.now) }
     {
         match self.get(name)? {
@@ -64,8 +65,8 @@ impl Things {
     }
 
     // Gives away the drawing that the name stands for, which then stands for nothing.
-    fn remove(&mut self, name: &str) -> Drawn
-        requires { (d : Drawn) × Stands self.old name.now d }
+    fn remove(&mut self, name: &str) -> AnyDrawing
+        requires { (d : AnyDrawing) × Stands self.old name.now d }
         ensures stood { Stands self.old name.now result }
         ensures taken { Takes self.old self.new name.now }
     {
@@ -79,7 +80,7 @@ impl Things {
     }
 
     // The drawing that the name stands for, which is used up.
-    pub fn take(&mut self, name: &str) -> Result<Drawn, Mistake>
+    pub fn take(&mut self, name: &str) -> Result<AnyDrawing, Mistake>
         ensures { MatchResult result (λ d. Stands self.old name.now d × Takes self.old self.new name.now) (λ _. Same self.old self.new) }
     {
         let _ = self.drawing(name)?;
@@ -87,7 +88,7 @@ impl Things {
     }
 
     // The drawings that the two names stand for, both used up. A drawing cannot be used twice.
-    pub fn take_two(&mut self, left: &str, right: &str) -> Result<(Drawn, Drawn), Mistake>
+    pub fn take_two(&mut self, left: &str, right: &str) -> Result<(AnyDrawing, AnyDrawing), Mistake>
         ensures { MatchResult result (λ d. TakenTwo self.old self.new left.now right.now d.0 d.1) (λ _. Same self.old self.new) }
     {
         if left == right {

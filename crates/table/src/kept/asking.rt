@@ -1,15 +1,17 @@
-ghost use Rattle.std.specs.Prelude.{◌≡◌, ◌≤◌};
-ghost use Rattle.std.specs.Option.{option_map};
+// Where the parts of an opened table are found.
+ghost use Rattle.std.specs.Prelude.{◌≡◌, ◌≤◌, length};
+ghost use Rattle.std.specs.Option.{option_copied};
+ghost use Rattle.std.specs.Result.{result_ok};
 ghost use Rattle.table.specs.Asked.{AtomFound, ChoiceFound, layout_in, controlled};
-ghost use Rattle.table.specs.Kept.{contents, atom_of, choice_of, guard_form, number_bytes_of};
+ghost use Rattle.table.specs.Kept.{contents, variable_of, atom_of, choice_of, guard_form, number_bytes_of};
 
 use super::Table;
-use crate::items::{item, number_place};
+use crate::items::Item;
 use drawing::Outline;
-use layout::{AtomLayout, ChoiceLayout};
-use model::Round;
+use layout::{AtomLayout, Layout, Places, Variable};
+use model::{Round, count_below};
 
-pub fn in_round(atom: &AtomLayout, round: Round) -> &ChoiceLayout
+pub fn in_round(atom: &AtomLayout, round: Round) -> &Places
     ensures { result.now ≡ layout_in round atom.now }
 {
     match round {
@@ -19,39 +21,40 @@ pub fn in_round(atom: &AtomLayout, round: Round) -> &ChoiceLayout
 }
 
 impl Table {
-    pub fn atom(&self, atom: u8) -> Option<&AtomLayout>
-        ensures { ∥ AtomFound (contents self.now) (atom_of self.now atom) (option_map (λ l. l.now) result) ∥₁ }
+    pub fn layout(&self) -> Option<&Layout>
+        ensures { option_copied result ≡ result_ok self.now.found }
     {
-        match &self.found {
-            Ok(layout) => {
-                if atom < layout.count {
-                    Some(&layout.atoms[atom as usize])
-                } else {
-                    None
-                }
-            }
-            Err(_) => None,
-        }
+        self.found.as_ref().ok()
+    }
+
+    pub fn variable(&self, name: u8) -> Option<Variable>
+        ensures { result ≡ variable_of self.now name }
+    {
+        self.layout()?.variables.at(name)
+    }
+
+    pub fn atom(&self, atom: u8) -> Option<&AtomLayout>
+        ensures { ∥ AtomFound (contents self.now) (atom_of self.now atom) (option_copied result) ∥₁ }
+    {
+        self.layout()?.atoms.as_slice().get(atom as usize)
     }
 
     // The place of the choice among the bytes.
-    fn place(&self, round: Round, atom: u8, choice: u8) -> Option<usize>
+    fn place(&self, round: Round, atom: u8, choice: u8) -> Option<u16>
         ensures { ∥ ChoiceFound (contents self.now) (controlled (atom_of self.now atom)) (choice_of self.now round atom choice) result ∥₁ }
     {
-        let choices = in_round(self.atom(atom)?, round);
-        if choice < choices.count {
-            Some(usize::from(choices.places[choice as usize]))
-        } else {
-            None
-        }
+        let places = in_round(self.atom(atom)?, round);
+        places.as_slice().get(choice as usize).copied()
     }
 
-    // The bytes of a table that is not too long.
+    // The bytes, none where they were too many.
     fn contents(&self) -> &[u8]
-        requires { self.now.size ≤ 4096 }
-        ensures { result.now ≡ contents self.now }
+        ensures { length (contents self.now) ≤ 4096 → result.now ≡ contents self.now }
     {
-        &self.bytes[..self.size]
+        match &self.bytes {
+            Ok(bytes) => bytes.as_slice(),
+            Err(_) => &[],
+        }
     }
 
     // The written form of the choice's guard, empty if there is no such choice.
@@ -59,7 +62,7 @@ impl Table {
         ensures { result.now ≡ guard_form (choice_of self.now round atom choice) }
     {
         match self.place(round, atom, choice) {
-            Some(place) => item(self.contents(), place),
+            Some(place) => Item::at(self.contents(), usize::from(place)).form(),
             None => &[],
         }
     }
@@ -72,10 +75,12 @@ impl Table {
         if !controls.has(name) {
             return &[];
         }
+        // behind the guard, and behind the number for each lower name that is controlled
+        let before = count_below(name, |lower| controls.has(lower)) + 1;
         match self.place(round, atom, choice) {
             Some(place) => {
-                let bytes = self.contents();
-                item(bytes, number_place(bytes, place, controls, name))
+                let guard = Item::at(self.contents(), usize::from(place));
+                guard.later(before).form()
             }
             None => &[],
         }

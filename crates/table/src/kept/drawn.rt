@@ -12,10 +12,7 @@ impl Outline for Table {
     ghost outline = { outline_of };
 
     fn fault(&self) -> Option<Fault> {
-        match &self.found {
-            Ok(_) => None,
-            Err(fault) => Some(*fault),
-        }
+        self.found.as_ref().err().copied()
     }
 
     fn layers(&self) -> u8 {
@@ -23,57 +20,30 @@ impl Outline for Table {
     }
 
     fn kind(&self, name: u8) -> Option<Kind> {
-        match &self.found {
-            Ok(layout) => {
-                if name < 32 {
-                    layout.kinds[name as usize]
-                } else {
-                    None
-                }
-            }
-            Err(_) => None,
-        }
+        Some(self.variable(name)?.kind)
     }
 
     fn top(&self, name: u8) -> u8 {
-        match &self.found {
-            Ok(layout) => {
-                if name < 32 {
-                    layout.tops[name as usize]
-                } else {
-                    0
-                }
-            }
-            Err(_) => 0,
-        }
+        self.variable(name).map_or(0, |variable| variable.top)
     }
 
     fn atoms(&self) -> u8 {
-        match &self.found {
-            Ok(layout) => layout.count,
-            Err(_) => 0,
-        }
+        self.layout()
+            .map_or(0, |layout| layout.atoms.as_slice().len() as u8)
     }
 
     fn controls(&self, atom: u8) -> Names {
-        match self.atom(atom) {
-            Some(layout) => layout.controls,
-            None => Names::none(),
-        }
+        self.atom(atom)
+            .map_or(Names::none(), |layout| layout.controls)
     }
 
     fn reads(&self, atom: u8) -> Names {
-        match self.atom(atom) {
-            Some(layout) => layout.reads,
-            None => Names::none(),
-        }
+        self.atom(atom).map_or(Names::none(), |layout| layout.reads)
     }
 
     fn awaits(&self, atom: u8) -> Names {
-        match self.atom(atom) {
-            Some(layout) => layout.awaits,
-            None => Names::none(),
-        }
+        self.atom(atom)
+            .map_or(Names::none(), |layout| layout.awaits)
     }
 }
 
@@ -83,10 +53,8 @@ impl Drawing for Table {
     ghost agree = { λ _. refl };
 
     fn choices(&self, round: Round, atom: u8) -> u8 {
-        match self.atom(atom) {
-            Some(layout) => in_round(layout, round).count,
-            None => 0,
-        }
+        self.atom(atom)
+            .map_or(0, |layout| in_round(layout, round).as_slice().len() as u8)
     }
 
     fn is_open(&self, round: Round, atom: u8, choice: u8, old: State, new: State) -> bool {

@@ -1,5 +1,6 @@
-use Rattle.std.proofs.Common.{◌≡◌, ℕ, List, sym, refl, ap, subst}
+use Rattle.std.proofs.Common.{◌≡◌, ℕ, List, sym, ap, ◌∙◌, subst}
 use Rattle.language.specs.Tables.{table_opened, fault_of, syntax_of, outline_of, table_acts}
+use Rattle.any_drawing.specs.Trees.{tree_meaning}
 use Rattle.table.specs.Kept.{contents}
 use Rattle.table.specs.Promises.{OpensAsWritten}
 use Rattle.table.specs.declared.kept.Table.{Table}
@@ -9,15 +10,15 @@ pub returns : goal.returns
 returns c =
     let bytes : List ℕ = c.args.bytes.now in
     let same = c.in_ok-table.ensures.ok in
+    let is = ap tree_meaning c.of.ensures in
     let table : Table = c.in_ok-table.table.value in
     let opened : table_opened (contents table) ≡ table_opened bytes = subst (λ t. table_opened (contents t) ≡ table_opened bytes) (sym same) c.open.ensures.opened in
     record {
-      whole = tt;
       means = record {
-        outline = ap (λ o. outline_of (fault_of o) (syntax_of o)) opened;
-        acts = ap (λ o. table_acts (syntax_of o)) opened;
+        outline = ap (λ m. m.outline) is ∙ ap (λ o. outline_of (fault_of o) (syntax_of o)) opened;
+        acts = ap (λ m. m.acts) is ∙ ap (λ o. table_acts (syntax_of o)) opened;
         table = table;
-        kept = refl;
+        kept = is;
         promised = subst (OpensAsWritten bytes) (sym same) c.open.ensures.promised;
       };
     }

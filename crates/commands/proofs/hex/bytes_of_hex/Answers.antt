@@ -1,21 +1,27 @@
-use Rattle.std.proofs.Common.{◌≡◌, ℕ, ◌+◌, ◌*◌, get_or, Some, vec_items, sym, refl, ap, ◌∙◌, subst, inl, inr, arith, below_more}
-use Rattle.commands.specs.Hex.{Strange}
-use Rattle.commands.proofs.Digits.{strange_pair}
+use Rattle.std.proofs.Common.{◌++◌, vec_items, sym, ap, ◌∙◌, subst, inl, inr, arith, append_assoc}
+use Rattle.std.proofs.lemmas.Result.{err_from_is_err_and}
+use Rattle.std.specs.Slice.Iter.{chunks_exact_rest}
+use Rattle.commands.specs.Hex.{Spells, Strange}
+use Rattle.commands.proofs.Digits.{strange_pair, strange_within, spells_more}
 use Rattle.commands.proofs.hex.bytes_of_hex.Goals as goal
 
-pub returns-in_default : goal.returns-in_default
-returns-in_default c =
-    let k = c.loop-k.k in
-    let pair = strange_pair c.as_bytes-digits.result.now (2 * k) (2 * k + 1) (omega arith) (omega arith) (sym c.byte.ensures ∙ c.in_default.is) in
-    inr (inl (refl, omega arith, subst Strange c.as_bytes-digits.ensures.value pair))
+pub returns-in_err-byte : goal.returns-in_err-byte
+returns-in_err-byte c =
+    let steps = c.in-Some.ensures.steps in
+    let read = c.loop-pair.invariant.3 in
+    let is = read.1 ∙ ap (λ l. read.0 ++ l) steps.1.0 in
+    let strange = strange_pair c.in-Some.pair.now 0 1 (omega (arith, steps.1.1, c.loop-pair.invariant.2)) (omega (arith, steps.1.1, c.loop-pair.invariant.2)) c.in_err-byte.ensures.1 in
+    let p = err_from_is_err_and c.from_residual.result c.from_residual.ensures.1 in
+    rw (p.1, p.2) (inr (inl (c.in_err-byte.ensures.0, omega arith, subst Strange (sym is) (strange_within read.0 c.in-Some.pair.now (chunks_exact_rest c.next.new.self) strange))))
 
-pub loop-k-preserved : goal.loop-k-preserved
-loop-k-preserved c =
-    let pushed = c.in_ok-push.ensures in
-    let here : get_or (vec_items c.push.new.self) c.loop-k.k 0 ≡ c.in-Some.b =
-    rw c.loop-k.invariant.0 at (pushed.by_index.1 0 refl) in (
-      omega (arith, pushed.len),
-      below_more _ _
-          (λ j h. c.loop-k.invariant.1 j h ∙ ap (λ (x : ℕ). Some x) (sym (pushed.by_index.0 j 0 (omega arith))))
-          (sym c.byte.ensures ∙ c.in-Some.is ∙ ap (λ (x : ℕ). Some x) (sym here)),
+pub loop-pair-preserved : goal.loop-pair-preserved
+loop-pair-preserved c =
+    let steps = c.in-Some.ensures.steps in
+    let read = c.loop-pair.invariant.3 in
+    let pair = c.in-Some.pair.now in
+    let more = spells_more read.0 (vec_items c.loop-pair.bytes) pair c.in_ok-byte.field-0 read.2 (omega (arith, steps.1.1, c.loop-pair.invariant.2)) c.in_ok-byte.ensures in (
+      omega (arith, steps.0, c.loop-pair.invariant.2),
+      tt,
+      steps.0 ∙ c.loop-pair.invariant.2,
+      (read.0 ++ pair, read.1 ∙ ap (λ l. read.0 ++ l) steps.1.0 ∙ sym (append_assoc read.0 pair (chunks_exact_rest c.next.new.self)), subst (Spells (read.0 ++ pair)) (sym c.in_ok-push.ensures.items) more),
     )

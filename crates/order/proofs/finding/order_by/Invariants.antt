@@ -5,4 +5,4 @@ use Rattle.order.proofs.Placing.{Placed}
 use Rattle.order.proofs.finding.order_by.Given as goal
 
 abbrev pub invariant-loop-place : goal.invariant-loop-place
-invariant-loop-place l = (length l.order ≡ 16) × Placed (direct l.table) l.atoms l.order (has l.placed) l.place
+invariant-loop-place l = (length l.order ≡ 16) × Placed (direct l.table) l.table.atoms l.order (has l.placed) l.place

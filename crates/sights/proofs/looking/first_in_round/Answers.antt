@@ -10,7 +10,7 @@ use Rattle.sights.proofs.Finding.{Known, looked_same}
 use Rattle.sights.proofs.looking.first_in_round.Goals as goal
 
 pub first_from-requires : goal.first_from-requires
-first_from-requires g c = record { held = c.requires; inside = omega arith; blank = blank_zeros c.args.round }
+first_from-requires g c = record { inside = omega arith; blank = blank_zeros c.args.round }
 
 pub returns : goal.returns
 returns g c =
@@ -21,7 +21,7 @@ returns g c =
     let look : Look = record { test = c.args.test; atom = a; choices = c.choices.result; controlled = c.controls.result; tops = c.tops.result; ranges = c.ranges-2.result } in
     let known : Known m r a look = record {
       atom_is = refl;
-      choices_are = c.choices.ensures.told;
+      choices_are = c.choices.ensures;
       controls_are = λ n. c.controls.ensures n ∙ ap (λ (o : OutlineFacts). o.controls a n) (sym agree);
       tops_are = λ n h. c.tops.ensures n h ∙ ap (λ (o : OutlineFacts). o.top n) (sym agree);
     }

@@ -1,4 +1,4 @@
-use Rattle.std.proofs.Common.{◌≡◌, vec_items, sym, ap, ◌∙◌, to_z-of_z, w16, SFits, rules}
+use Rattle.std.proofs.Common.{vec_items, sym, ap, ◌∙◌, to_z-of_z, w16, SFits, rules}
 use Rattle.wording.specs.Told.{assignment_at}
 use Rattle.wording.proofs.Below.{below_none, below_push, below_pass, assignment_there, assignment_absent}
 use Rattle.wording.proofs.ask.reply_to.Goals as goal
@@ -18,7 +18,7 @@ loop-name-preserved g c =
       | then-has+in_ok-push w ↦
           below_push (assignment_at o acts q) n _ _ _ c.loop-name.invariant (ap vec_items w.given-is ∙ w.in_ok-push.ensures.items)
           (let fits : SFits w16 w.gives-value.result = search rules in
-          assignment_there o acts q n _ (told ∙ w.if-has.true) (to_z-of_z fits ∙ w.gives-value.ensures.told))
+          assignment_there o acts q n _ (told ∙ w.if-has.true) (to_z-of_z fits ∙ w.gives-value.ensures))
       | else-has w ↦
           below_pass (assignment_at o acts q) n _ (ap vec_items w.given-is ∙ c.loop-name.invariant) (assignment_absent o acts q n (told ∙ w.if-has.false))
     ]

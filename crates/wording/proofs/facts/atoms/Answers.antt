@@ -1,4 +1,4 @@
-use Rattle.std.proofs.Common.{◌≡◌, get_or, vec_items, sym, refl, ap, ◌∙◌, subst, arith, below_more}
+use Rattle.std.proofs.Common.{get_or, vec_items, sym, refl, subst, arith, below_more}
 use Rattle.wording.specs.Told.{DescribesAtom}
 use Rattle.wording.proofs.facts.atoms.Goals as goal
 
@@ -17,8 +17,8 @@ loop-atom-preserved g c =
             controls = c.controls.ensures;
             reads = c.reads.ensures;
             awaits = c.awaits.ensures;
-            initial = c.choices.ensures.told;
-            update = c.choices-in-loop-atom.ensures.told;
+            initial = c.choices.ensures;
+            update = c.choices-in-loop-atom.ensures;
           }))
           a,
     )

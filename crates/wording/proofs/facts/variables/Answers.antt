@@ -1,4 +1,4 @@
-use Rattle.std.proofs.Common.{◌≡◌, vec_items, sym, ap, ◌∙◌}
+use Rattle.std.proofs.Common.{vec_items, sym, ap, ◌∙◌}
 use Rattle.wording.specs.Told.{variable_at}
 use Rattle.wording.proofs.Below.{below_none, below_push, below_pass, variable_there, variable_absent}
 use Rattle.wording.proofs.facts.variables.Goals as goal

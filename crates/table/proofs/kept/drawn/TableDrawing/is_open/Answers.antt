@@ -1,11 +1,7 @@
-use Rattle.std.proofs.Common.{refl}
 use Rattle.table.proofs.Values.{opens}
 use Rattle.table.proofs.kept.drawn.TableDrawing.is_open.Goals as goal
 
 pub returns : goal.returns
 returns c =
     let a = c.args in
-    record {
-      told = opens a.self.now a.round a.atom a.choice c.guard.result.now a.old a.new c.truth_value.result c.guard.ensures c.truth_value.ensures.evaluated c.truth_value.ensures.means;
-      agrees = refl;
-    }
+    opens a.self.now a.round a.atom a.choice c.guard.result.now a.old a.new c.truth_value.result c.guard.ensures c.truth_value.ensures.evaluated c.truth_value.ensures.means

@@ -1,8 +1,7 @@
-use Rattle.table.proofs.Told.{fault_none, fault_some}
+use Rattle.std.proofs.Common.{ap, ◌∙◌}
+use Rattle.std.specs.Option.{option_copied}
+use Rattle.table.proofs.Told.{fault_told}
 use Rattle.table.proofs.kept.drawn.TableOutline.fault.Goals as goal
 
-pub returns-in-Ok : goal.returns-in-Ok
-returns-in-Ok c = fault_none c.args.self.now c.in-Ok.field-0 c.in-Ok.is
-
-pub returns-in-Err : goal.returns-in-Err
-returns-in-Err c = fault_some c.args.self.now c.in-Err.fault c.in-Err.is
+pub returns : goal.returns
+returns c = c.copied.ensures ∙ ap option_copied c.err.ensures.value ∙ fault_told c.args.self.now c.as_ref.result c.as_ref.ensures.value

@@ -1,0 +1,30 @@
+// A tree that may be asked: its layers are as they were made.
+ghost use Rattle.any_drawing.specs.Whole.{Whole};
+ghost use Rattle.std.specs.Prelude.{◌≡◌};
+
+use crate::{AnyDrawing, Tree};
+
+impl AnyDrawing {
+    // The drawing that a tree is, whose layers are as they were made.
+    pub(crate) fn of(tree: Tree) -> AnyDrawing
+        requires { Whole tree }
+        ensures { result.tree ≡ tree }
+    {
+        AnyDrawing { tree }
+    }
+
+    pub(crate) fn into_tree(self) -> Tree
+        ensures same { result ≡ self.tree }
+        ensures whole { Whole result }
+    {
+        self.tree
+    }
+
+    // The layers that the drawing is piled of.
+    pub fn tree(&self) -> &Tree
+        ensures same { result.now ≡ self.now.tree }
+        ensures whole { Whole result.now }
+    {
+        &self.tree
+    }
+}

@@ -1,5 +1,0 @@
-use Rattle.any_drawing.specs.Whole.{Whole}
-use Rattle.any_drawing_tests.proofs.deep.renamed.Given as goal
-
-abbrev pub invariant-loop-k : goal.invariant-loop-k
-invariant-loop-k l = Whole l.pile

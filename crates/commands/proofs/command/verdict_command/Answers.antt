@@ -1,5 +1,0 @@
-use Rattle.std.proofs.Common.{sym, refl, rules}
-use Rattle.commands.proofs.command.verdict_command.Goals as goal
-
-pub returns : goal.returns
-returns c = record { verb = refl; count = search rules; words = sym c.in_ok-from_str.ensures.ok }

@@ -1,4 +1,0 @@
-use Rattle.expression.proofs.checking.+number_end.Given as goal
-
-abbrev pub decreases-number_end : goal.decreases-number_end
-decreases-number_end l = l.levels

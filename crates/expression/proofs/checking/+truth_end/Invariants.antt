@@ -1,4 +1,0 @@
-use Rattle.expression.proofs.checking.+truth_end.Given as goal
-
-abbrev pub decreases-truth_end : goal.decreases-truth_end
-decreases-truth_end l = l.levels

@@ -1,6 +1,0 @@
-use Rattle.std.proofs.Common.{sym, arith}
-use Rattle.expression.proofs.Steps.{byte_inside}
-use Rattle.expression.proofs.checking.constant_end.Goals as goal
-
-pub overflow_add-result : goal.overflow_add-result
-overflow_add-result c = omega (arith, byte_inside c.args.bytes.now c.args.place _ (sym c.in-Some.ensures))

@@ -1,7 +1,0 @@
-use Rattle.std.proofs.Common.{◌≡◌, true}
-use Rattle.layout.specs.Sets.{own_in}
-use Rattle.model.specs.Tests.{every}
-use Rattle.layout.proofs.sets.all_own.Given as goal
-
-abbrev pub invariant-loop-name : goal.invariant-loop-name
-invariant-loop-name l = every (own_in l.kinds l.names) l.name ≡ true

@@ -1,0 +1,31 @@
+// A list of limited length, kept in place: no heap is needed for it. The library's own such list cannot be copied.
+ghost use Rattle.std.specs.Prelude.{◌≡◌, ◌≤◌, ⊤, length};
+
+use std::alloc::AllocError;
+
+mod methods;
+
+// There is no room for another item.
+#[derive(Clone, Copy, PartialEq, Eq, Debug)]
+pub struct Full;
+
+// At most N items, which stand first in an array; what stands behind them means nothing.
+#[derive(Debug)]
+pub struct Row<T, const N: usize> {
+    items: [T; N],
+    count: usize,
+    ghost full: { length items ≡ N },
+    ghost few: { count ≤ N },
+}
+
+impl<T: Copy, const N: usize> Clone for Row<T, N> {
+    ghost is_clone = { λ row copy. copy ≡ row };
+
+    ghost is_infallible = { λ _. ⊤ };
+
+    fn clone(&self) -> Result<Row<T, N>, AllocError> {
+        Ok(*self)
+    }
+}
+
+impl<T: Copy, const N: usize> Copy for Row<T, N> {}

@@ -1,7 +1,0 @@
-use Rattle.std.proofs.Common.{◌≡◌, false}
-use Rattle.model.specs.Tests.{some}
-use Rattle.sights.specs.Seen.{open_at}
-use Rattle.sights.proofs.leaves.some_open.Given as goal
-
-abbrev pub invariant-loop-choice : goal.invariant-loop-choice
-invariant-loop-choice g l = some (open_at (g.D.Drawing.meaning l.drawing).acts l.look l.sight) l.choice ≡ false
