@@ -6,18 +6,20 @@ use crate::{AnyDrawing, Tree};
 
 impl AnyDrawing {
     // The drawing that a tree is, whose layers are as they were made.
-    pub(crate) fn of(tree: Tree) -> AnyDrawing
+    pub fn of(tree: Tree) -> AnyDrawing
         requires { Whole tree }
         ensures { result.tree ≡ tree }
     {
         AnyDrawing { tree }
     }
 
-    pub(crate) fn into_tree(self) -> Tree
+    // The layers, taken out of the drawing.
+    pub fn into_tree(self) -> Tree
         ensures same { result ≡ self.tree }
         ensures whole { Whole result }
     {
-        self.tree
+        let Self { tree } = self;
+        tree
     }
 
     // The layers that the drawing is piled of.

@@ -25,10 +25,10 @@ pub enum Mistake {
     NoMemory,
 }
 
-impl Mistake {
-    // What is wrong, for people.
-    fn words(self) -> &'static str {
-        match self {
+// What is wrong, for people.
+impl fmt::Display for Mistake {
+    fn fmt<W: fmt::Write>(&self, f: &mut fmt::Formatter<W>) -> fmt::Result {
+        f.write_str(match self {
             Mistake::NotText => "the line is not UTF-8 text",
             Mistake::UnknownCommand => "there is no such command",
             Mistake::MissingWord => "a word is missing",
@@ -45,13 +45,7 @@ impl Mistake {
             Mistake::NotAUnit => "this name stands for a drawing, and a unit is wanted",
             Mistake::Unreadable => "the file cannot be read",
             Mistake::NoMemory => "there is not enough memory",
-        }
-    }
-}
-
-impl fmt::Display for Mistake {
-    fn fmt<W: fmt::Write>(&self, f: &mut fmt::Formatter<W>) -> fmt::Result {
-        f.write_str(self.words())
+        })
     }
 }
 

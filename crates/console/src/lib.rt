@@ -14,13 +14,17 @@ struct Disk<'a> {
     rt: &'a HostRuntime,
 }
 
+// What a file is refused for that could not be read for this reason.
+fn reading_mistake(kind: io::ErrorKind) -> Mistake {
+    match kind {
+        io::ErrorKind::OutOfMemory => Mistake::NoMemory,
+        _ => Mistake::Unreadable,
+    }
+}
+
 impl FileBytes for Disk<'_> {
     fn read(&self, path: &str) -> Result<Vec<u8>, Mistake> {
-        match fs::read(self.rt, path) {
-            Ok(bytes) => Ok(bytes),
-            Err(e) if e.kind() == io::ErrorKind::OutOfMemory => Err(Mistake::NoMemory),
-            Err(_) => Err(Mistake::Unreadable),
-        }
+        fs::read(self.rt, path).map_err(|e| reading_mistake(e.kind()))
     }
 }
 
@@ -34,9 +38,7 @@ fn run_lines<S: BufRead + Drop>(
     let disk = Disk { rt };
     let mut session = Session::new(heap, vocabulary);
     let mut all_right = true;
-    let mut number: u64 = 0;
-    for line in script.split(heap, b'\n') {
-        number = number.saturating_add(1);
+    for (number, line) in (1u64..).zip(script.split(heap, b'\n')) {
         match session.run(&disk, line?.as_slice()) {
             Ok(Some(answer)) => println!(rt; "{answer}")?,
             Ok(None) => {}

@@ -9,5 +9,5 @@ mod renaming;
 
 pub use checking::{Seen, check_number, check_truth};
 pub use evaluation::{number_value, truth_value};
-pub use operators::{NoOperator, NumberOperator, TruthOperator};
+pub use operators::{LEVELS, NoOperator, NumberOperator, TruthOperator};
 pub use renaming::rename;

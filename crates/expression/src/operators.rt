@@ -55,6 +55,7 @@ impl TryFrom<u8> for NumberOperator {
 }
 
 impl NumberOperator {
+    // As for truths: one function for both would be as long as the two.
     pub fn at(bytes: &[u8], place: usize) -> Option<NumberOperator>
         ensures { number_meant result ≡ judged number_operator (byte_at bytes.now place) }
     {

@@ -1,2 +1,4 @@
+pub mod Filled
 pub mod Limits
+pub mod Tables
 pub mod Through

@@ -13,7 +13,7 @@ unfolding some
 some_never zero = refl
 some_never (suc n) = some_never n
 
-and_given : (x y : Bool) → x ≡ true → (x && y) ≡ y
+pub and_given : (x y : Bool) → x ≡ true → (x && y) ≡ y
 and_given x y e = ap (λ v. v && y) e
 
 module _ (awaits : ℕ → ℕ → Bool) (atoms goal : ℕ) where

@@ -1,17 +1,24 @@
 -- Atoms that await each other, one step at a time. Assumes nothing.
-use Rattle.std.specs.Prelude.{◌≡◌, ℕ, zero, suc, ◌<◌, Bool, false, List, [], ◌&&◌, ◌||◌, nat_lt, slice_index_or}
+use Rattle.std.specs.Prelude.{◌≡◌, ℕ, zero, suc, Bool, false, Some, None, Option, ◌&&◌, ◌||◌, nat_lt, slice_get}
 use Rattle.model.specs.Meanings.{OutlineFacts}
+use Rattle.model.specs.Sets.{has}
 use Rattle.model.specs.Tests.{some}
+use Rattle.model.specs.declared.names.Names.{Names}
 use Rattle.units.specs.Sealing.{awaits_atom}
 use Rattle.fitness.specs.declared.table.Table.{Table}
 
--- the table's mark for the two atoms, none where there are no such atoms
-abbrev pub direct : Table → ℕ → ℕ → Bool
-direct t a b = nat_lt a 16 && nat_lt b 16 && slice_index_or (slice_index_or t.marks a []) b false
+-- is the atom in the set, where there is one
+abbrev pub has_in : Option Names → ℕ → Bool
+has_in None b = false
+has_in (Some s) b = has s b
 
--- the marks of an atom are right for each of the first 16 atoms
-abbrev pub Awaited : OutlineFacts → ℕ → List Bool → Type 0
-Awaited o a marks = (b : ℕ) → b < 16 → slice_index_or marks b false ≡ awaits_atom o a b
+-- is the second atom in the table's set of the first, and are there such atoms
+abbrev pub direct : Table → ℕ → ℕ → Bool
+direct t a b = nat_lt a 16 && nat_lt b 16 && has_in (slice_get t.awaited a) b
+
+-- the set of those that an atom awaits is right for each number that can be in a set
+abbrev pub Awaited : OutlineFacts → ℕ → Names → Type 0
+Awaited o a awaited = (b : ℕ) → has awaited b ≡ (nat_lt b 32 && awaits_atom o a b)
 
 -- the atom awaits the other one, which is behind
 abbrev pub steps_to : (ℕ → ℕ → Bool) → (ℕ → Bool) → ℕ → ℕ → Bool

@@ -2,32 +2,18 @@
 ghost use Rattle.std.specs.Prelude.{◌≡◌};
 ghost use Rattle.model.specs.Tests.{lowest};
 ghost use Rattle.sights.specs.Sights.{test_of};
-ghost use Rattle.units.specs.Sealing.{in_some_round, gets_stuck, leaves_range};
+ghost use Rattle.units.specs.Sealing.{in_some_round};
 
 use drawing::{Drawing, Outline};
 use model::lowest_below;
 use sights::{Test, first_sight};
 
-// The lowest atom of which it is found at some values.
-fn lowest_found<D: Drawing>(drawing: &D, test: Test) -> Option<u8>
+// The lowest atom of which what is looked for is so at some values in range of what it sees.
+pub fn lowest_found<D: Drawing>(drawing: &D, test: Test) -> Option<u8>
     ensures { result ≡ lowest (in_some_round (D.Drawing.meaning drawing.now) (test_of test)) (D.Outline.outline drawing.now).atoms }
 {
     lowest_below(
         drawing.atoms(),
         |atom| first_sight(drawing, test, atom).is_some(),
     )
-}
-
-// The lowest atom that has no open choice at some values in range of what it sees.
-pub fn lowest_stuck<D: Drawing>(drawing: &D) -> Option<u8>
-    ensures { result ≡ lowest (gets_stuck (D.Drawing.meaning drawing.now)) (D.Outline.outline drawing.now).atoms }
-{
-    lowest_found(drawing, Test::NothingOpen)
-}
-
-// The lowest atom of which an open choice gives a value out of range at some values in range of what it sees.
-pub fn lowest_outside<D: Drawing>(drawing: &D) -> Option<u8>
-    ensures { result ≡ lowest (leaves_range (D.Drawing.meaning drawing.now)) (D.Outline.outline drawing.now).atoms }
-{
-    lowest_found(drawing, Test::GivesOutside)
 }

@@ -18,7 +18,7 @@ fn outer_width<D: Outline>(drawing: &D) -> u64
     ensures { result ≡ min (product (external_values (D.Outline.outline drawing.now)) 32) 1048577 }
 {
     product_below(32, TOO_MANY, |name| {
-        let external = matches!(drawing.kind(name), Some(Kind::External));
+        let external = drawing.kind(name) == Some(Kind::External);
         values(external, drawing.top(name))
     })
 }

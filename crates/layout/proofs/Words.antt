@@ -1,14 +1,13 @@
--- Sets of names gathered one name after the other. Assumes nothing.
-use Rattle.std.proofs.Common.{◌≡◌, ℕ, ◌^◌, ◌<◌, ◌≤◌, Bool, false, sym, ◌∙◌, ⊎_elim}
-use Rattle.std.proofs.lemmas.Bool.{cases_lt}
+-- Sets of names that stand for numbers of 32 bits. Assumes nothing.
+use Rattle.std.proofs.Common.{◌≡◌, ℕ, ◌^◌, ◌<◌, ◌≤◌, ◌⊎◌, ◌&&◌, ltb, inl, inr, sym, ap, ◌∙◌}
+use Rattle.std.proofs.lemmas.Bool.{lt-ltb, le-ltb, cases_lt}
 use Rattle.language.specs.TableLaws.{bit_high}
 use Rattle.language.specs.Tables.{bit}
 
--- below i the set has what passes, and above nothing
-pub record Upto (p s : ℕ → Bool) (i : ℕ) : Type 0 where
-  pub below : (n : ℕ) → n < i → s n ≡ p n
-  pub above : (n : ℕ) → i ≤ n → s n ≡ false
-
--- a number of 32 bits is gathered when 32 names are
-pub upto_all : (w : ℕ) (s : ℕ → Bool) → w < 2 ^ 32 → Upto (bit w) s 32 → (n : ℕ) → s n ≡ bit w n
-upto_all w s small u n = ⊎_elim (λ l. u.below n l) (λ l. u.above n l ∙ sym (bit_high w n small l)) (cases_lt n 32)
+-- no bit of such a number past the 32 names is set
+pub all_names : (w : ℕ) → w < 2 ^ 32 → (n : ℕ) → (ltb n 32 && bit w n) ≡ bit w n
+all_names w small n = go (cases_lt n 32)
+  where
+    go : (n < 32) ⊎ (32 ≤ n) → (ltb n 32 && bit w n) ≡ bit w n
+    go (inl l) = ap (λ b. b && bit w n) (lt-ltb n 32 l)
+    go (inr l) = ap (λ b. b && bit w n) (le-ltb n 32 l) ∙ sym (bit_high w n small l)

@@ -18,13 +18,7 @@ use model::{Fault, Kind, Names, all_below, count_below};
 fn names_of(word: u32) -> Names
     ensures { NamesOf word result }
 {
-    let mut names = Names::none();
-    for name in 0..32 {
-        if (word >> name) % 2 == 1 {
-            names = names.with(name);
-        }
-    }
-    names
+    Names::gather(|name| (word >> name) % 2 == 1)
 }
 
 // How many names are in the set.

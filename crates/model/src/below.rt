@@ -1,4 +1,5 @@
-// Questions after all numbers below a bound.
+// Questions after all numbers below a bound. They are loops, since with `any` and `all` of a range what they promise, of any
+// test that says what the closure answers, was not proved.
 ghost use Rattle.model.specs.Tests.{every, some, lowest, count, Answers};
 ghost use Rattle.std.specs.Prelude.{◌≡◌, ◌<◌, ℕ, Bool};
 

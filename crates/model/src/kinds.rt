@@ -1,8 +1,8 @@
-// Kinds of variables as numbers and as words.
+// Kinds of variables as numbers and as words, and rounds as words.
 ghost use Rattle.std.specs.Prelude.{◌≡◌};
 ghost use Rattle.model.specs.Kinds.{kind_number, Decodes};
 
-use crate::Kind;
+use crate::{Kind, Round};
 use std::error::Error;
 use std::fmt;
 
@@ -54,3 +54,12 @@ impl fmt::Display for UnknownKind {
 }
 
 impl Error for UnknownKind {}
+
+impl fmt::Display for Round {
+    fn fmt<W: fmt::Write>(&self, f: &mut fmt::Formatter<W>) -> fmt::Result {
+        f.write_str(match self {
+            Round::Initial => "init",
+            Round::Update => "update",
+        })
+    }
+}

@@ -33,7 +33,8 @@ pub enum Round {
     Update,
 }
 
-// What is wrong with a drawing: which rule, in which layer of a pile, and at which byte, name or atom.
+// What is wrong with a drawing: which rule, in which layer of a pile, and at which byte, name or atom. The rule is a
+// number, since the rules are an open set: each kind of drawing numbers its own.
 #[derive(Clone, Copy, PartialEq, Eq, Debug)]
 pub struct Fault {
     pub number: u8,

@@ -37,12 +37,8 @@ impl Choices<'_> {
 
     // A line for each choice, as `init 0: if true: name 4 := 0`.
     fn add_lines(&self, text: &mut String) -> Result<(), AllocError> {
-        let word = match self.round {
-            Round::Initial => "init",
-            Round::Update => "update",
-        };
         for choice in 0..self.table.choices(self.round, self.atom) {
-            write!(text, "\n    {word} {choice}: if ")?;
+            write!(text, "\n    {} {choice}: if ", self.round)?;
             let guard = Written {
                 bytes: self.table.guard(self.round, self.atom, choice),
                 naming: self.naming,

@@ -1,10 +1,7 @@
 // Written expressions in infix notation. Only right expressions are shown; of any other what can be read is told.
-use expression::{NumberOperator, TruthOperator};
+use expression::{LEVELS, NumberOperator, TruthOperator};
 use model::{State, value_of};
 use std::alloc::AllocError;
-
-// The most levels that an expression nests.
-const LEVELS: u8 = 8;
 
 // What is left to read of a written expression, and what each name is called.
 #[derive(Clone, Copy)]

@@ -15,7 +15,7 @@ const ATOMS: u16 = 16;
 pub fn told(layer: u16) -> u8
     ensures { result ≡ told layer }
 {
-    if layer < 255 { layer as u8 } else { 255 }
+    layer.min(255) as u8
 }
 
 // The fault as it is told from so many layers above.
@@ -97,7 +97,7 @@ pub fn rename_fault<D: Outline>(below: &D, old: u8, new: u8) -> Option<Fault>
 pub fn hide_fault<D: Outline>(below: &D, name: u8) -> Option<Fault>
     ensures { result ≡ fault_of_hidden (D.Outline.outline below.now) name }
 {
-    let right = matches!(below.kind(name), Some(Kind::Interface));
+    let right = below.kind(name) == Some(Kind::Interface);
     below
         .fault()
         .map(|fault| deeper(fault, 1))

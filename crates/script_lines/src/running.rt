@@ -20,10 +20,8 @@ impl FileBytes for Shelf {
 
 // What the line is answered, or an empty text.
 pub fn answer(heap: Global, session: &mut Session, line: &str) -> Result<String, Mistake> {
-    match session.run(&Shelf { heap }, line.as_bytes())? {
-        Some(text) => Ok(text),
-        None => Ok(String::new(heap)),
-    }
+    let answered = session.run(&Shelf { heap }, line.as_bytes())?;
+    Ok(answered.unwrap_or(String::new(heap)))
 }
 
 // The mistake that the line is refused for, if it is.

@@ -1,43 +1,19 @@
 // What right lines are answered.
-use commands::{Mistake, Vocabulary};
-use script_lines::{BLANK_LINES, NAND, OUTLINE_OF_NAND, QUESTIONS, answer, mistake};
-use sessions::Session;
+use commands::Vocabulary;
+use script_lines::{check_blank_lines, check_outline, check_questions};
 use std::test::Fail;
 
 #[test]
 fn blank_lines_and_comments(rt: HostRuntime) -> Result<(), Fail> {
-    let heap = rt.alloc();
-    let mut session = Session::new(heap, Vocabulary::GateLists);
-    for line in BLANK_LINES {
-        assert!(rt; answer(heap, &mut session, line)?.is_empty(), "{}", line);
-    }
-    Ok(())
+    check_blank_lines(rt.alloc(), Vocabulary::GateLists)
 }
 
 #[test]
 fn questions(rt: HostRuntime) -> Result<(), Fail> {
-    let heap = rt.alloc();
-    let mut session = Session::new(heap, Vocabulary::GateLists);
-    for (line, text) in QUESTIONS {
-        assert_eq!(rt; answer(heap, &mut session, line)?.as_str(), text);
-    }
-    assert_eq!(rt;
-        mistake(heap, &mut session, b"outline d"),
-        Some(Mistake::UnknownName)
-    );
-    Ok(())
+    check_questions(rt.alloc(), Vocabulary::GateLists)
 }
 
 #[test]
 fn an_outline(rt: HostRuntime) -> Result<(), Fail> {
-    let heap = rt.alloc();
-    let mut session = Session::new(heap, Vocabulary::GateLists);
-    let _ = answer(heap, &mut session, NAND)?;
-    let outline = answer(heap, &mut session, "outline d\r")?;
-    let mut lines = outline.as_str().lines();
-    for line in OUTLINE_OF_NAND {
-        assert_eq!(rt; lines.next(), Some(line));
-    }
-    assert_eq!(rt; lines.next(), None);
-    Ok(())
+    check_outline(rt.alloc(), Vocabulary::GateLists)
 }

@@ -1,25 +1,16 @@
 // Lines that are refused, one of every sort.
 use commands::{Mistake, Vocabulary};
-use script_lines::{WRONG_LINES, mistake};
+use script_lines::{WRONG_LINES, check_not_text, check_refused, mistake};
 use sessions::Session;
+use std::test::Fail;
 
 #[test]
-fn every_sort_of_wrong_line(rt: HostRuntime) {
+fn every_sort_of_wrong_line(rt: HostRuntime) -> Result<(), Fail> {
     let heap = rt.alloc();
     let mut session = Session::new(heap, Vocabulary::GateLists);
     assert!(rt; mistake(heap, &mut session, b"gates a 0000FF01FF").is_none());
-    for (line, why) in WRONG_LINES {
-        assert_eq!(rt;
-            mistake(heap, &mut session, line.as_bytes()),
-            Some(why),
-            "{}",
-            line
-        );
-    }
-    assert_eq!(rt;
-        mistake(heap, &mut session, b"outline \xff"),
-        Some(Mistake::NotText)
-    );
+    check_refused(heap, &mut session, WRONG_LINES.as_slice())?;
+    check_not_text(heap, &mut session)
 }
 
 // What a name stood for it stands for still, after a line that would have replaced it.
@@ -35,11 +26,11 @@ fn a_wrong_line_alters_nothing(rt: HostRuntime) {
 
 // A verb that only the larger vocabulary has is no command, whatever words follow it.
 #[test]
-fn verbs_that_are_not_known(rt: HostRuntime) {
+fn verbs_that_are_not_known(rt: HostRuntime) -> Result<(), Fail> {
     let heap = rt.alloc();
     let mut session = Session::new(heap, Vocabulary::GateLists);
     assert!(rt; mistake(heap, &mut session, b"gates a -").is_none());
-    for line in [
+    let unknown = [
         "table t 00",
         "join b a a",
         "rename b a 0 1",
@@ -47,12 +38,7 @@ fn verbs_that_are_not_known(rt: HostRuntime) {
         "seal u a 1",
         "verdict a",
         "join",
-    ] {
-        assert_eq!(rt;
-            mistake(heap, &mut session, line.as_bytes()),
-            Some(Mistake::UnknownCommand),
-            "{}",
-            line
-        );
-    }
+    ];
+    let refused = unknown.map(|line| (line, Mistake::UnknownCommand));
+    check_refused(heap, &mut session, refused.as_slice())
 }

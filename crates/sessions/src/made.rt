@@ -37,19 +37,21 @@ impl Made {
         }
     }
 
+    // The drawing that it is or that it seals.
+    fn drawing(&self) -> &AnyDrawing {
+        match self {
+            Made::Drawing(drawing) => drawing,
+            Made::SealedUnit(sealed) => sealed.unit.drawing(),
+        }
+    }
+
     // What is answered to `outline`: of a unit, the outline of its drawing.
     pub fn outline(&self, heap: Global) -> Result<String, AllocError> {
-        match self {
-            Made::Drawing(drawing) => outline_text(heap, drawing),
-            Made::SealedUnit(sealed) => outline_text(heap, sealed.unit.drawing()),
-        }
+        outline_text(heap, self.drawing())
     }
 
     // What is answered to `ask`: of a unit, after a choice of its drawing.
     pub fn ask(&self, heap: Global, question: &Question) -> Result<String, AllocError> {
-        match self {
-            Made::Drawing(drawing) => ask_text(heap, drawing, question),
-            Made::SealedUnit(sealed) => ask_text(heap, sealed.unit.drawing(), question),
-        }
+        ask_text(heap, self.drawing(), question)
     }
 }

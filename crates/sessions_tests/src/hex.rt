@@ -1,31 +1,13 @@
 // Byte strings at the edges of what a hex digit is.
-use commands::{Mistake, bytes_of_hex};
+use script_lines::{check_digits_of_both_cases, check_strange_digits};
 use std::test::Fail;
 
 #[test]
 fn digits_of_both_cases(rt: HostRuntime) -> Result<(), Fail> {
-    let bytes = bytes_of_hex(rt.alloc(), "09aAfFf0")?;
-    assert!(rt; bytes.as_slice() == [0x09, 0xaa, 0xff, 0xf0].as_slice());
-    assert!(rt; bytes_of_hex(rt.alloc(), "")?.is_empty());
-    Ok(())
+    check_digits_of_both_cases(rt.alloc())
 }
 
 #[test]
-fn strange_digits(rt: HostRuntime) {
-    for text in ["/0", "0:", "@0", "0G", "`0", "0g", "é", "0x"] {
-        assert_eq!(rt;
-            bytes_of_hex(rt.alloc(), text).err(),
-            Some(Mistake::BadHex),
-            "{}",
-            text
-        );
-    }
-    for text in ["0", "xyz", "000"] {
-        assert_eq!(rt;
-            bytes_of_hex(rt.alloc(), text).err(),
-            Some(Mistake::OddHex),
-            "{}",
-            text
-        );
-    }
+fn strange_digits(rt: HostRuntime) -> Result<(), Fail> {
+    check_strange_digits(rt.alloc())
 }

@@ -1,7 +1,8 @@
 // Lines that are refused, one of every sort.
 use commands::{Mistake, Vocabulary};
-use script_lines::{WRONG_LINES, mistake};
+use script_lines::{WRONG_LINES, check_not_text, check_refused, mistake};
 use sessions::Session;
+use std::test::Fail;
 
 // Lines of the larger vocabulary that are refused where `a` and the unit `u` were made, and `c` is used up.
 const LARGER_WRONG_LINES: [(&str, Mistake); 18] = [
@@ -26,24 +27,15 @@ const LARGER_WRONG_LINES: [(&str, Mistake); 18] = [
 ];
 
 #[test]
-fn every_sort_of_wrong_line(rt: HostRuntime) {
+fn every_sort_of_wrong_line(rt: HostRuntime) -> Result<(), Fail> {
     let heap = rt.alloc();
     let mut session = Session::new(heap, Vocabulary::Everything);
     assert!(rt; mistake(heap, &mut session, b"gates a 0000FF01FF").is_none());
     assert!(rt; mistake(heap, &mut session, b"gates c 0000FF02FF").is_none());
     assert!(rt; mistake(heap, &mut session, b"seal u c 7").is_none());
-    for (line, why) in WRONG_LINES.iter().chain(&LARGER_WRONG_LINES) {
-        assert_eq!(rt;
-            mistake(heap, &mut session, line.as_bytes()),
-            Some(*why),
-            "{}",
-            line
-        );
-    }
-    assert_eq!(rt;
-        mistake(heap, &mut session, b"outline \xff"),
-        Some(Mistake::NotText)
-    );
+    check_refused(heap, &mut session, WRONG_LINES.as_slice())?;
+    check_refused(heap, &mut session, LARGER_WRONG_LINES.as_slice())?;
+    check_not_text(heap, &mut session)
 }
 
 // What a name stood for it stands for still, after a line that would have replaced it.

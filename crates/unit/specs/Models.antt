@@ -1,10 +1,11 @@
 -- The unit that a core stands for, beside what its drawing means. Assumes nothing.
-use Rattle.std.specs.Prelude.{ℕ, Bool, List, [], map, Some, None, Option}
+use Rattle.std.specs.Prelude.{ℕ, Bool, List, [], map, take, Some, None, Option}
 use Rattle.std.specs.Option.{is_none}
 use Rattle.expression.specs.Evaluation.{everything}
 use Rattle.language.specs.Expressions.{Truth, negation, always, Reading, good, bad, whole_truth}
 use Rattle.model.specs.Meanings.{Meaning}
 use Rattle.model.specs.Rows.{listed}
+use Rattle.model.specs.declared.names.Names.{Names}
 use Rattle.model.specs.declared.row.Row.{Row}
 use Rattle.unit.specs.declared.claims.Claim.{Claim}
 use Rattle.unit.specs.declared.claims.Mark.{Mark}
@@ -34,10 +35,14 @@ abbrev pub claims_of : Option (Row Claim 8) → List units.Claim
 claims_of None = []
 claims_of (Some cs) = map claim_of (listed cs)
 
+-- a mark for each of the 16 atoms: is it in the set
+abbrev pub marks_of : Names → List Bool
+marks_of atoms = take 16 atoms.marks
+
 abbrev pub phase_of : Phase → units.Phase
 phase_of Idle = idle
 phase_of (Standing s) = standing s
-phase_of (InRound before new fired) = in_round before new fired
+phase_of (InRound before new fired) = in_round before new (marks_of fired)
 
 abbrev pub model_of : Meaning → Core → UnitModel
 model_of m c = record {

@@ -7,8 +7,8 @@ abbrev pub before_sized : Option (List ℕ) → Bool
 before_sized None = true
 before_sized (Some s) = length s == 32
 
--- states have 32 values, and there is a mark for each of 16 atoms
+-- states have 32 values
 abbrev pub sized : Phase → Bool
 sized Idle = true
 sized (Standing s) = length s == 32
-sized (InRound before new fired) = before_sized before && length new == 32 && length fired == 16
+sized (InRound before new fired) = before_sized before && length new == 32

@@ -20,7 +20,8 @@ pub fn faulty() -> GateList {
     GateList::open(&[0, 0, 255, 1, 255, 7, 0, 255, 2, 255])
 }
 
-// A list of so many NOT gates, with the wire and the name of each by its number.
+// A list of so many NOT gates, with the wire and the name of each by its number. The numbers are counted: tried as a zip of them
+// with the records, where the proof no longer has that a number is below the count, which the closure needs.
 fn inverters<F: Fn(u8) -> (u8, u8)>(count: u8, wires: F) -> GateList
     requires few { count ≤ 15 }
     requires callable { (k : ℕ) → k < count → F.pre wires k }

@@ -12,5 +12,5 @@ mod verdict;
 pub use ask::{Assignment, Question, Reply, ask_text, reply_to};
 pub use facts::{Atom, Variable, atoms, variables};
 pub use opening::opening_text;
-pub use outline::outline_text;
+pub use outline::{outline_of, outline_text};
 pub use verdict::verdict_text;

@@ -7,7 +7,7 @@ use crate::facts::{Atom, Variable, atoms, variables};
 use crate::rules::Words;
 use crate::text::{Listed, NameList};
 use any_drawing::AnyDrawing;
-use drawing::Outline;
+use drawing::Drawing;
 use model::Names;
 use notation::choice_lines;
 use std::alloc::{AllocError, Global};
@@ -55,13 +55,14 @@ fn add_variables(text: &mut String, variables: &[Variable]) -> Result<(), AllocE
     Ok(())
 }
 
-// A line for each atom, and below it one for each choice that a table writes out.
-fn add_atoms(
-    heap: Global,
+// A line for each atom, and below it what is told of its choices.
+fn add_atoms<F: Fn(u8) -> Result<String, AllocError>>(
     text: &mut String,
-    drawing: &AnyDrawing,
     atoms: &[Atom],
-) -> Result<(), AllocError> {
+    choices: F,
+) -> Result<(), AllocError>
+    requires { F.IsAlwaysCallable choices }
+{
     for (atom, a) in (0..16u8).zip(atoms.iter()) {
         write!(
             text,
@@ -72,13 +73,19 @@ fn add_atoms(
             a.initial,
             a.update
         )?;
-        text.push_str(choice_lines(heap, drawing, atom)?.as_str())?;
+        text.push_str(choices(atom)?.as_str())?;
     }
     Ok(())
 }
 
-// The facts in one line, then lines for people.
-pub fn outline_text(heap: Global, drawing: &AnyDrawing) -> Result<String, AllocError> {
+// The facts in one line, then lines for people, with these lines for the choices of each atom.
+fn outline_with<D: Drawing, F: Fn(u8) -> Result<String, AllocError>>(
+    heap: Global,
+    drawing: &D,
+    choices: F,
+) -> Result<String, AllocError>
+    requires { F.IsAlwaysCallable choices }
+{
     let variables = variables(heap, drawing)?;
     let atoms = atoms(heap, drawing)?;
     let mut text = format!(in heap;
@@ -101,6 +108,16 @@ pub fn outline_text(heap: Global, drawing: &AnyDrawing) -> Result<String, AllocE
         write!(text, "\n  faulty: {}", Words(fault))?;
     }
     add_variables(&mut text, variables.as_slice())?;
-    add_atoms(heap, &mut text, drawing, atoms.as_slice())?;
+    add_atoms(&mut text, atoms.as_slice(), choices)?;
     Ok(text)
+}
+
+// What is told of a drawing of any kind: nothing of what its choices do.
+pub fn outline_of<D: Drawing>(heap: Global, drawing: &D) -> Result<String, AllocError> {
+    outline_with(heap, drawing, |_| Ok(String::new(heap)))
+}
+
+// What is told of a drawing, with a line for each choice that a table writes out.
+pub fn outline_text(heap: Global, drawing: &AnyDrawing) -> Result<String, AllocError> {
+    outline_with(heap, drawing, |atom| choice_lines(heap, drawing, atom))
 }

@@ -1,5 +1,6 @@
 // What a tree of layers answers. What is wrong with it is known from the top layer on, so each question looks there
-// first.
+// first. That the layers are as they were made is asked of the caller: with a ghost field in each layer the type would lead
+// back to itself in a way that the checker cannot state.
 ghost use Rattle.any_drawing.specs.Trees.{tree_meaning, tree_outline};
 ghost use Rattle.any_drawing.specs.Whole.{Whole};
 ghost use Rattle.model.specs.Sets.{has};
@@ -12,20 +13,19 @@ use model::{Fault, Kind, Names, Round, State};
 use piles::{exchanged, exchanged_names, exchanged_state, joined_kind, told};
 
 impl Tree {
-    pub(crate) fn fault(&self) -> Option<Fault>
+    pub fn fault(&self) -> Option<Fault>
         requires { Whole self.now }
         ensures { result ≡ (tree_outline self.now).fault }
     {
         match self {
             Tree::Table(table) => table.fault(),
             Tree::Gates(list) => list.fault(),
-            Tree::Join { fault, .. } => *fault,
-            Tree::Rename { fault, .. } => *fault,
-            Tree::Hide { fault, .. } => *fault,
+            Tree::Join { fault, .. } | Tree::Rename { fault, .. } | Tree::Hide { fault, .. } =>
+                *fault,
         }
     }
 
-    pub(crate) fn layers(&self) -> u8
+    pub fn layers(&self) -> u8
         requires { Whole self.now }
         ensures { result ≡ (tree_outline self.now).layers }
     {
@@ -35,12 +35,13 @@ impl Tree {
             Tree::Join { left, right, .. } => {
                 told(1 + u16::from(left.layers()) + u16::from(right.layers()))
             }
-            Tree::Rename { below, .. } => told(1 + u16::from(below.layers())),
-            Tree::Hide { below, .. } => told(1 + u16::from(below.layers())),
+            Tree::Rename { below, .. } | Tree::Hide { below, .. } => {
+                told(1 + u16::from(below.layers()))
+            }
         }
     }
 
-    pub(crate) fn kind(&self, name: u8) -> Option<Kind>
+    pub fn kind(&self, name: u8) -> Option<Kind>
         requires { Whole self.now }
         ensures { result ≡ (tree_outline self.now).kind name }
     {
@@ -62,7 +63,7 @@ impl Tree {
         }
     }
 
-    pub(crate) fn top(&self, name: u8) -> u8
+    pub fn top(&self, name: u8) -> u8
         requires { Whole self.now }
         ensures { result ≡ (tree_outline self.now).top name }
     {
@@ -84,7 +85,7 @@ impl Tree {
         }
     }
 
-    pub(crate) fn atoms(&self) -> u8
+    pub fn atoms(&self) -> u8
         requires { Whole self.now }
         ensures { result ≡ (tree_outline self.now).atoms }
     {
@@ -99,12 +100,11 @@ impl Tree {
                 left_atoms,
                 ..
             } => *left_atoms + right.atoms(),
-            Tree::Rename { below, .. } => below.atoms(),
-            Tree::Hide { below, .. } => below.atoms(),
+            Tree::Rename { below, .. } | Tree::Hide { below, .. } => below.atoms(),
         }
     }
 
-    pub(crate) fn controls(&self, atom: u8) -> Names
+    pub fn controls(&self, atom: u8) -> Names
         requires { Whole self.now }
         ensures { (n : ℕ) → has result n ≡ (tree_outline self.now).controls atom n }
     {
@@ -134,7 +134,7 @@ impl Tree {
         }
     }
 
-    pub(crate) fn reads(&self, atom: u8) -> Names
+    pub fn reads(&self, atom: u8) -> Names
         requires { Whole self.now }
         ensures { (n : ℕ) → has result n ≡ (tree_outline self.now).reads atom n }
     {
@@ -164,7 +164,7 @@ impl Tree {
         }
     }
 
-    pub(crate) fn awaits(&self, atom: u8) -> Names
+    pub fn awaits(&self, atom: u8) -> Names
         requires { Whole self.now }
         ensures { (n : ℕ) → has result n ≡ (tree_outline self.now).awaits atom n }
     {
@@ -194,7 +194,7 @@ impl Tree {
         }
     }
 
-    pub(crate) fn choices(&self, round: Round, atom: u8) -> u8
+    pub fn choices(&self, round: Round, atom: u8) -> u8
         requires { Whole self.now }
         ensures { result ≡ (tree_meaning self.now).acts.choices round atom }
     {
@@ -214,13 +214,12 @@ impl Tree {
                 left_atoms,
                 ..
             } => right.choices(round, atom - *left_atoms),
-            Tree::Rename { below, .. } => below.choices(round, atom),
-            Tree::Hide { below, .. } => below.choices(round, atom),
+            Tree::Rename { below, .. } | Tree::Hide { below, .. } => below.choices(round, atom),
         }
     }
 
     // The drawing below a rename sees its own names: old and new values are told to it with the two names exchanged.
-    pub(crate) fn is_open(&self, round: Round, atom: u8, choice: u8, old: State, new: State) -> bool
+    pub fn is_open(&self, round: Round, atom: u8, choice: u8, old: State, new: State) -> bool
         requires { Whole self.now }
         ensures { result ≡ (tree_meaning self.now).acts.opens round atom choice (value old) (value new) }
     {
@@ -254,15 +253,7 @@ impl Tree {
         }
     }
 
-    pub(crate) fn gives(
-        &self,
-        round: Round,
-        atom: u8,
-        choice: u8,
-        name: u8,
-        old: State,
-        new: State,
-    ) -> i16
+    pub fn gives(&self, round: Round, atom: u8, choice: u8, name: u8, old: State, new: State) -> i16
         requires { Whole self.now }
         ensures { result ≡ (tree_meaning self.now).acts.gives round atom choice name (value old) (value new) }
     {

@@ -96,7 +96,8 @@ impl Evaluator<'_> {
         }
     }
 
-    // Two truths, one after the other, and the place after both.
+    // Two truths, one after the other, and the place after both. With the reading of one as a parameter this and `numbers`
+    // would be one function, in a cycle with both its callers.
     #[cycle(truth)]
     fn truths(&self, levels: u8, place: usize) -> Option<((bool, bool), usize)>
         requires { levels ≤ 8 }

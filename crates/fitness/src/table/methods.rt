@@ -4,7 +4,7 @@ ghost use Rattle.units.specs.Sealing.{awaits_atom};
 
 use super::Table;
 use drawing::Outline;
-use model::any_below;
+use model::{Names, any_below};
 use std::array::from_fn;
 
 // Does the atom await a name that the other controls?
@@ -16,11 +16,11 @@ fn awaits_atom<D: Outline>(drawing: &D, atom: u8, other: u8) -> bool
     any_below(32, |name| awaited.has(name) && controlled.has(name))
 }
 
-// Which of the first 16 atoms the atom awaits.
-fn awaited<D: Outline>(drawing: &D, atom: u8) -> [bool; 16]
+// The atoms that the atom awaits.
+fn awaited<D: Outline>(drawing: &D, atom: u8) -> Names
     ensures { Awaited (D.Outline.outline drawing.now) atom result }
 {
-    from_fn(|other| awaits_atom(drawing, atom, other as u8))
+    Names::gather(|other| awaits_atom(drawing, atom, other))
 }
 
 impl Table {
@@ -31,8 +31,8 @@ impl Table {
     {
         Table {
             atoms: drawing.atoms().min(16),
-            marks: from_fn(
-                |atom: usize| -> [bool; 16]
+            awaited: from_fn(
+                |atom: usize| -> Names
                     requires { atom < 16 }
                     ensures { Awaited (D.Outline.outline drawing.entry.now) atom result }
                 { awaited(drawing, atom as u8) },
@@ -50,6 +50,6 @@ impl Table {
     pub fn awaits(&self, atom: u8, other: u8) -> bool
         ensures { result ≡ direct self.now atom other }
     {
-        atom < 16 && other < 16 && self.marks[atom as usize][other as usize]
+        atom < 16 && other < 16 && self.awaited[atom as usize].has(other)
     }
 }

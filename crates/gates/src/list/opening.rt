@@ -12,6 +12,8 @@ use super::GateList;
 use crate::gate::{Gate, Part};
 use model::{Full, Row};
 
+// The records and a place among them are asked for by three functions in a row; a struct of both would be made for one call.
+
 // Does an earlier record have the out of this one?
 fn out_taken(records: &[[u8; 5]], index: usize) -> bool
     requires { index < length records.now }

@@ -58,12 +58,7 @@ impl<'a> Reader<'a> {
         ensures { Tells (byte_item 3 kind_of) self.old self.new result }
     {
         let place = self.place;
-        match self.byte()? {
-            0 => Ok(Kind::Private),
-            1 => Ok(Kind::Interface),
-            2 => Ok(Kind::External),
-            _ => Err(Rule::Variable.broken_at(place)),
-        }
+        Kind::try_from(self.byte()?).map_err(|_| Rule::Variable.broken_at(place))
     }
 
     // The number that four bytes make, the highest first.

@@ -22,7 +22,7 @@ impl Names {
         Names { marks }
     }
 
-    // The names at which the test passes.
+    // The names at which the test passes. A loop, as those of `below`.
     pub fn gather<F: Fn(u8) -> bool>(test: F) -> Names
         requires { (k : ℕ) → k < 32 → F.pre test k }
         ensures { (p : ℕ → Bool) → Answers (F.post test) p 32 → (n : ℕ) → has result n ≡ (nat_lt n 32 && p n) }

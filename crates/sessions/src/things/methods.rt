@@ -71,11 +71,8 @@ impl Things {
         ensures taken { Takes self.old self.new name.now }
     {
         match self.map.remove(name) {
-            None => unreachable(),
-            Some(thing) => match thing {
-                Made::Drawing(drawn) => drawn,
-                Made::SealedUnit(_) => unreachable(),
-            },
+            Some(Made::Drawing(drawing)) => drawing,
+            _ => unreachable(),
         }
     }
 
