@@ -1,6 +1,6 @@
 -- What a session keeps that knows the commands for gate lists only: every name stands for a gate list, and a line that is
 -- refused alters nothing, even where memory is wanting. Assumes nothing.
-use Rattle.std.specs.Prelude.{◌≡◌, ℕ, Bool, true, false, cond, ◌⊎◌, List, [], ◌∷◌, Some, None, Ok, Err, vec_items, string_bytes, Option, Result}
+use Rattle.std.specs.Prelude.{◌≡◌, ℕ, Bool, true, false, cond, ◌⊎◌, List, [], ◌∷◌, Some, None, Ok, Err, vec_items, string_bytes, Option, Result, IfErr}
 use Rattle.std.specs.Borrow.{Bor}
 use Rattle.std.specs.Str.{bytes_eq as same_text}
 use Rattle.std.proofs.Common.{inl, inr, sym, refl, ap, ◌∙◌, subst}
@@ -13,6 +13,7 @@ use Rattle.commands.specs.declared.mistake.Mistake.{Mistake}
 use Rattle.commands.specs.declared.source.ByteSource.{ByteSource}
 use Rattle.commands.specs.declared.source.ByteSource.TheVariants.{Given, File}
 use Rattle.commands.specs.declared.verb.Verb.{Verb}
+use Rattle.commands.specs.declared.vocabulary.Vocabulary.{Vocabulary}
 use Rattle.commands.specs.declared.vocabulary.Vocabulary.TheVariants.{GateLists}
 use Rattle.sessions.specs.Sessions.{DrawnFrom, IsDrawing, Obeys, Spares, Ran}
 use Rattle.sessions.specs.Things.{meant, Nothing, Same}
@@ -93,3 +94,16 @@ pub only_gate_lists : (X : Type 0) (line : List ℕ) (old new : Things) (r : Res
 only_gate_lists X line old new (Ok (Some answer)) ran only = obeyed old new ran.1 (asked ran.0 ran.1 ran.3) ran.4 only
 only_gate_lists X line old new (Ok None) ran only = unaltered old new ran.3 only
 only_gate_lists X line old new (Err e) ran only = unaltered old new (refused_alters_nothing X line old new e ran) only
+
+-- With the commands for gate lists only, a line that is refused alters nothing, and names that stood for gate lists alone go on doing so.
+abbrev pub KeepsGateLists : {X : Type 0} → Vocabulary → Things → Things → Result (Option X) Mistake → Type 0
+KeepsGateLists vocabulary old new r = vocabulary ≡ GateLists → IfErr r (λ e. Same old new) × (OnlyGateLists old → OnlyGateLists new)
+
+pub keeps_gate_lists : (X : Type 0) (vocabulary : Vocabulary) (line : List ℕ) (old new : Things) (r : Result (Option X) Mistake) → Ran vocabulary line old new r → KeepsGateLists vocabulary old new r
+keeps_gate_lists X vocabulary line old new r ran is =
+    let known = subst (λ v. Ran v line old new r) is ran in
+    (refused r known, only_gate_lists X line old new r known)
+  where
+    refused : (r : Result (Option X) Mistake) → Ran GateLists line old new r → IfErr r (λ e. Same old new)
+    refused (Ok answer) ran = tt
+    refused (Err e) ran = refused_alters_nothing X line old new e ran

@@ -1,5 +1,6 @@
 // What a script has made so far.
 ghost use Rattle.commands.specs.declared.mistake.Mistake.TheVariants.{NotText};
+ghost use Rattle.sessions.specs.GateLists.{KeepsGateLists};
 ghost use Rattle.sessions.specs.Sessions.{Ran};
 ghost use Rattle.sessions.specs.Things.{Nothing};
 ghost use Rattle.std.specs.Prelude.{◌≡◌, IsUtf8, MatchResult};
@@ -34,6 +35,14 @@ impl Session {
 
     // Does what a line asks for, and tells what to answer, if anything. A line that is refused alters nothing.
     pub fn run<F: FileBytes>(&mut self, files: &F, line: &[u8]) -> Result<Option<String>, Mistake>
+        ensures vocabulary { self.new.vocabulary ≡ self.old.vocabulary }
+        ensures things { Ran self.old.vocabulary line.now self.old.things self.new.things result }
+        ensures gate_lists { KeepsGateLists self.old.vocabulary self.old.things self.new.things result }
+    {
+        self.run_line(files, line)
+    }
+
+    fn run_line<F: FileBytes>(&mut self, files: &F, line: &[u8]) -> Result<Option<String>, Mistake>
         ensures vocabulary { self.new.vocabulary ≡ self.old.vocabulary }
         ensures things { Ran self.old.vocabulary line.now self.old.things self.new.things result }
     {
