@@ -24,12 +24,11 @@ def sources(tests=True):
 
 
 def code(text):
-    """The text without comments and contracts."""
+    """The text with comments and contracts left blank."""
     lines = []
     for line in text.split("\n"):
         line = line.split("//")[0]
-        if not re.match(r"\s*(requires|ensures|ghost)\b", line):
-            lines.append(line)
+        lines.append("" if re.match(r"\s*(requires|ensures|ghost)\b", line) else line)
     return "\n".join(lines)
 
 

@@ -2,18 +2,24 @@
 use Rattle.std.specs.Prelude.{◌≡◌, ℕ, List}
 use Rattle.gates.specs.Behaviour.{GatesWork}
 use Rattle.gates.specs.GateLists.{opened}
+use Rattle.gates.specs.Drawn.{meaning_of as gates_meaning}
 use Rattle.gates.specs.Meaning.{list_outline, list_acts}
+use Rattle.gates.specs.Readings.{reading}
+use Rattle.gates.specs.declared.list.GateList.{GateList}
 use Rattle.language.specs.Tables.{table_of, table_outline, table_acts}
 use Rattle.model.specs.Meanings.{Meaning}
 use Rattle.table.specs.Kept.{meaning_of}
 use Rattle.table.specs.Promises.{OpensAsWritten}
 use Rattle.table.specs.declared.kept.Table.{Table}
 
--- m means the gate list that the bytes describe
+-- m means the gate list that the bytes describe, kept opened
 pub record MeansGates (bytes : List ℕ) (m : Meaning) : Type 0 where
   pub outline : m.outline ≡ list_outline (opened bytes)
   pub acts : m.acts ≡ list_acts (opened bytes)
   pub works : GatesWork bytes m
+  pub list : GateList
+  pub kept : m ≡ gates_meaning list
+  pub read : reading list ≡ opened bytes
 
 -- m means the table that the bytes describe, kept opened
 pub record MeansTable (bytes : List ℕ) (m : Meaning) : Type 0 where

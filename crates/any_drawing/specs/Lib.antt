@@ -1,3 +1,4 @@
+pub mod Layers
 pub mod Leaves
 pub mod Meaning
 pub mod Trees

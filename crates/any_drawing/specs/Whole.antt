@@ -1,6 +1,10 @@
 -- What a tree of layers keeps from the calls that made it on: in each layer its parts are whole, and what stands beside
 -- them is what was judged of them. Assumes nothing.
-use Rattle.std.specs.Prelude.{◌≡◌, ℕ, ◌<◌, None, Option}
+use mathlib.Core.HLevel.{→_prop}
+use native.Mathlib.Bridge.{le_prop}
+use native.Mathlib.Nat.{ℕ_set}
+use Rattle.std.specs.Prelude.{◌≡◌, ℕ, ◌<◌, None, Option, refl}
+use Rattle.std.proofs.Props.{props}
 use Rattle.model.specs.Meanings.{OutlineFacts}
 use Rattle.model.specs.declared.Fault.{Fault}
 use Rattle.composition.specs.Faults.{fault_of_renamed, fault_of_hidden, fault_of_joined}
@@ -32,3 +36,27 @@ Whole (Gates list) = Unit {0}
 Whole (Join' p left q right fault count) = WholeJoin (Whole left) (Whole right) (tree_outline left) (tree_outline right) fault count
 Whole (Rename' p below old new fault) = WholeRename (Whole below) (tree_outline below) old new fault
 Whole (Hide' p below name fault) = WholeHide (Whole below) (tree_outline below) name fault
+
+faults_set : IsSet (Option Fault)
+faults_set = hlevel props
+
+-- in one way only, so that a type can keep it
+pub whole_prop : (t : Tree) → IsProp (Whole t)
+whole_prop (Table table) a b = refl
+whole_prop (Gates list) a b = refl
+whole_prop (Join' p left q right fault count) a b = λ i.
+    record {
+      left_whole = whole_prop left a.left_whole b.left_whole i;
+      right_whole = whole_prop right a.right_whole b.right_whole i;
+      judged = faults_set _ _ a.judged b.judged i;
+      counted = ℕ_set _ _ a.counted b.counted i;
+    }
+whole_prop (Rename' p below old new fault) a b = λ i.
+    record {
+      below_whole = whole_prop below a.below_whole b.below_whole i;
+      judged = faults_set _ _ a.judged b.judged i;
+      old_name = →_prop le_prop a.old_name b.old_name i;
+      new_name = →_prop le_prop a.new_name b.new_name i;
+    }
+whole_prop (Hide' p below name fault) a b = λ i.
+    record { below_whole = whole_prop below a.below_whole b.below_whole i; judged = faults_set _ _ a.judged b.judged i }

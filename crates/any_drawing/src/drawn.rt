@@ -10,35 +10,35 @@ impl Outline for AnyDrawing {
     ghost outline = { any_outline };
 
     fn fault(&self) -> Option<Fault> {
-        self.tree().fault()
+        self.whole_tree().fault()
     }
 
     fn layers(&self) -> u8 {
-        self.tree().layers()
+        self.tree.layers()
     }
 
     fn kind(&self, name: u8) -> Option<Kind> {
-        self.tree().kind(name)
+        self.whole_tree().kind(name)
     }
 
     fn top(&self, name: u8) -> u8 {
-        self.tree().top(name)
+        self.whole_tree().top(name)
     }
 
     fn atoms(&self) -> u8 {
-        self.tree().atoms()
+        self.whole_tree().atoms()
     }
 
     fn controls(&self, atom: u8) -> Names {
-        self.tree().controls(atom)
+        self.whole_tree().controls(atom)
     }
 
     fn reads(&self, atom: u8) -> Names {
-        self.tree().reads(atom)
+        self.whole_tree().reads(atom)
     }
 
     fn awaits(&self, atom: u8) -> Names {
-        self.tree().awaits(atom)
+        self.whole_tree().awaits(atom)
     }
 }
 
@@ -48,14 +48,14 @@ impl Drawing for AnyDrawing {
     ghost agree = { Prim.search rules };
 
     fn choices(&self, round: Round, atom: u8) -> u8 {
-        self.tree().choices(round, atom)
+        self.whole_tree().choices(round, atom)
     }
 
     fn is_open(&self, round: Round, atom: u8, choice: u8, old: State, new: State) -> bool {
-        self.tree().is_open(round, atom, choice, old, new)
+        self.whole_tree().is_open(round, atom, choice, old, new)
     }
 
     fn gives(&self, round: Round, atom: u8, choice: u8, name: u8, old: State, new: State) -> i16 {
-        self.tree().gives(round, atom, choice, name, old, new)
+        self.whole_tree().gives(round, atom, choice, name, old, new)
     }
 }

@@ -2,6 +2,7 @@
 ghost use Rattle.any_drawing.specs.Whole.{Whole};
 ghost use Rattle.std.specs.Prelude.{◌≡◌};
 
+use crate::tree::WholeTree;
 use crate::{AnyDrawing, Tree};
 
 impl AnyDrawing {
@@ -28,5 +29,12 @@ impl AnyDrawing {
         ensures whole { Whole result.now }
     {
         &self.tree
+    }
+
+    // The layers, with the fact that they are as they were made.
+    pub(crate) fn whole_tree(&self) -> WholeTree<'_>
+        ensures { result.tree.now ≡ self.now.tree }
+    {
+        WholeTree { tree: self.tree() }
     }
 }

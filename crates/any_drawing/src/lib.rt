@@ -1,7 +1,7 @@
 // One type for every drawing: a leaf, or a pile of such drawings. What is piled is decided while a program runs.
 #![tactic(auto)]
 
-ghost use Rattle.any_drawing.specs.Whole.{Whole};
+ghost use Rattle.any_drawing.specs.Whole.{Whole, whole_prop};
 
 mod drawn;
 mod kept;
@@ -14,5 +14,5 @@ pub use tree::Tree;
 #[derive(Drop)]
 pub struct AnyDrawing {
     tree: Tree,
-    ghost whole: { ∥ Whole tree ∥₁ },
+    ghost whole: { Whole tree } by { whole_prop tree },
 }

@@ -1,21 +1,16 @@
 // The drawings that the tests pile up.
 use any_drawing::AnyDrawing;
+use samples::{FAULTY, TOGGLE, inverter};
 use std::alloc::{AllocError, Global};
 
-// A table of one variable, name 0, which starts at 0 and is 1 less what it was in each later round.
+// A table of one variable, name 0, which starts at 0 and takes its old value from 1 in each later round.
 pub fn toggle(heap: Global) -> Result<AnyDrawing, AllocError> {
-    AnyDrawing::table(
-        heap,
-        &[
-            1, 0, 1, 1, 1, 0, 0, 0, 1, 0, 0, 0, 1, 0, 0, 0, 0, 1, 1, 1, 21, 2, 0, 0, 1, 21, 5, 4,
-            0, 1, 1, 0,
-        ],
-    )
+    AnyDrawing::table(heap, &TOGGLE)
 }
 
 // A list of one NOT gate.
 pub fn not(heap: Global, a: u8, out: u8) -> Result<AnyDrawing, AllocError> {
-    AnyDrawing::gates(heap, &[0, a, 255, out, 255])
+    AnyDrawing::gates(heap, &inverter(a, out))
 }
 
 // A list of one AND gate.
@@ -23,9 +18,9 @@ pub fn and(heap: Global, a: u8, b: u8, out: u8) -> Result<AnyDrawing, AllocError
     AnyDrawing::gates(heap, &[1, a, b, out, 255])
 }
 
-// A list whose second record has no kind: fault 18 at byte 5.
+// A list with a fault of its own.
 pub fn faulty(heap: Global) -> Result<AnyDrawing, AllocError> {
-    AnyDrawing::gates(heap, &[0, 0, 255, 1, 255, 7, 0, 255, 2, 255])
+    AnyDrawing::gates(heap, &FAULTY)
 }
 
 // A drawing with nothing in it.

@@ -1,10 +1,10 @@
 -- What the words of a line ask for. Assumes nothing.
-use Rattle.std.specs.Prelude.{◌≡◌, ℕ, ◌<◌, Bool, true, false, cond, ◌⊎◌, List, [], ◌∷◌, length, Some, None, Ok, Err, string_bytes, codes, Option, Result, ◌==◌, ◌≢◌, nat_lt, slice_index, slice_index_or}
+use Rattle.std.specs.Prelude.{◌≡◌, ℕ, ◌<◌, Bool, true, false, cond, ◌⊎◌, List, [], ◌∷◌, length, Some, None, Ok, Err, string_bytes, ok_or, Option, Result, ◌==◌, ◌≢◌, nat_lt, slice_index, slice_index_or}
 use Rattle.std.specs.Borrow.{Bor}
 use Rattle.std.specs.Str.Parse.{digits_value}
-use Rattle.std.specs.Str.{all_ascii_digits, bytes_eq}
+use Rattle.std.specs.Str.{all_ascii_digits}
 use Rattle.model.specs.declared.Round.{Round}
-use Rattle.model.specs.declared.Round.TheVariants.{Initial, Update}
+use Rattle.model.specs.Rounds.{round_named}
 use Rattle.commands.specs.Sources.{Denotes}
 use Rattle.commands.specs.Words.{Words}
 use Rattle.commands.specs.declared.command.Command.{Command}
@@ -20,7 +20,7 @@ abbrev pub Numeral : ℕ → List ℕ → Type 0
 Numeral limit w = (all_ascii_digits w ≡ true) × (0 < length w) × (digits_value 10 w < limit)
 
 abbrev pub round_of : List ℕ → Result Round Mistake
-round_of w = cond (bytes_eq w (codes "init")) (Ok Initial) (cond (bytes_eq w (codes "update")) (Ok Update) (Err BadRound))
+round_of w = ok_or (round_named w) BadRound
 
 -- the word at a place, empty where there is none
 abbrev pub word : List (Bor (List ℕ)) → ℕ → List ℕ

@@ -11,7 +11,7 @@ use crate::mistake::Mistake;
 use crate::source::ByteSource;
 use crate::verb::Verb;
 use crate::vocabulary::Vocabulary;
-use model::Round;
+use model::{Question, Round};
 use std::alloc::{AllocError, Global};
 
 #[derive(Drop)]
@@ -54,29 +54,14 @@ pub enum Command {
     },
     Ask {
         name: String,
-        asked: Asked,
+        asked: Question<ByteSource>,
     },
 }
 
-// A choice of an atom, and the states at which it is asked for.
-#[derive(Drop)]
-pub struct Asked {
-    pub round: Round,
-    pub atom: u8,
-    pub choice: u8,
-    pub old: ByteSource,
-    pub new: ByteSource,
-}
-
-// `Round` is the model's, so that it cannot be read as a verb is.
 fn round(word: &str) -> Result<Round, Mistake>
     ensures { result ≡ round_of word.now }
 {
-    match word {
-        "init" => Ok(Round::Initial),
-        "update" => Ok(Round::Update),
-        _ => Err(Mistake::BadRound),
-    }
+    word.parse::<Round>().map_err(|_| Mistake::BadRound)
 }
 
 // The number of 32 bits that decimal digits spell. `parse` alone would take a plus sign too.
@@ -84,7 +69,7 @@ fn number_or(mistake: Mistake, word: &str) -> Result<u32, Mistake>
     ensures reads { OkIff result (Numeral 4294967296 word.now) (digits_value 10 word.now) }
     ensures blames { IfErr result (λ e. e ≡ mistake) }
 {
-    if let [b'+', ..] = word.as_bytes() {
+    if word.starts_with('+') {
         return Err(mistake);
     }
     word.parse::<u32>().map_err(|_| mistake)
@@ -161,7 +146,7 @@ fn command_of(heap: Global, verb: Verb, words: &[&str]) -> Result<Command, Mista
         }),
         (Verb::Ask, [name, kind, atom, choice, old, new]) => Ok(Command::Ask {
             name: String::from_str(heap, name)?,
-            asked: Asked {
+            asked: Question {
                 round: round(kind)?,
                 atom: number(atom)?,
                 choice: number(choice)?,
@@ -176,17 +161,13 @@ fn command_of(heap: Global, verb: Verb, words: &[&str]) -> Result<Command, Mista
 fn words_of<'a>(heap: Global, line: &'a str) -> Result<Vec<&'a str>, AllocError>
     ensures { IfOk result (λ v. Words line.now v.items) }
 {
-    let mut words = Vec::new(heap);
-    for word in line.split_whitespace() {
-        words.push(word)?;
-    }
-    Ok(words)
+    line.split_whitespace().collect(heap)
 }
 
 fn begins_comment(word: &str) -> bool
     ensures { result ≡ begins_comment word.now }
 {
-    word.as_bytes().first() == Some(&b'#')
+    word.starts_with('#')
 }
 
 // What the line asks for; a blank line and a comment ask for nothing.

@@ -11,12 +11,7 @@ use std::alloc::Global;
 fn digit(c: u8) -> Option<u8>
     ensures { result ≡ digit_worth c }
 {
-    match c {
-        b'0'..=b'9' => Some(c - b'0'),
-        b'a'..=b'f' => Some(c - b'a' + 10),
-        b'A'..=b'F' => Some(c - b'A' + 10),
-        _ => None,
-    }
+    Some(char::from(c).to_digit(16)? as u8)
 }
 
 // The byte that two digits spell.

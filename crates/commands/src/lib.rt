@@ -1,4 +1,4 @@
-// What a line of a script asks for.
+// Lines of a script: the command that one spells, in the vocabulary that a program knows, and what can be wrong with it.
 #![tactic(auto)]
 
 mod command;
@@ -8,7 +8,7 @@ mod source;
 mod verb;
 mod vocabulary;
 
-pub use command::{Asked, Command, parse};
+pub use command::{Command, parse};
 pub use hex::bytes_of_hex;
 pub use mistake::Mistake;
 pub use source::{ByteSource, FileBytes, state_of};

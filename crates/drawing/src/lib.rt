@@ -40,9 +40,9 @@ pub trait Outline {
         ensures { (n : ℕ) → has result n ≡ (outline self.now).awaits atom n };
 }
 
-// The full drawing: what each atom may do in a round. A question takes the round, the atom, the choice and the values one
-// by one: each asks for some of these alone, and a struct of them would be made for every question. Its meaning holds the outline's facts: the law says that the two
-// agree.
+// The full drawing: what each atom may do in a round. Its meaning holds the outline's facts: the law says that the two agree. A
+// question takes the round, the atom, the choice and the values one by one: each asks for some of these alone, and each layer of
+// a pile asks below at another atom, name or values, so that a struct of them would be made anew there.
 pub trait Drawing: Outline {
     ghost meaning: { Self → Meaning };
 

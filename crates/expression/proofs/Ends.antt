@@ -1,5 +1,5 @@
 -- Where expressions end, by their operators. Assumes nothing.
-use Rattle.std.proofs.Common.{◌≡◌, ℕ, ◌+◌, ◌-◌, Bool, true, false, cond, ◌⊎◌, List, Some, None, Ok, Err, Option, sym, refl, ap, ◌∙◌, inl, inr, arith}
+use Rattle.std.proofs.Common.{◌≡◌, ℕ, ◌+◌, Bool, true, false, cond, ◌⊎◌, List, Some, None, Ok, Err, Option, sym, refl, ap, ◌∙◌, inl, inr, arith}
 use Rattle.language.specs.Expressions.{Number, Seen, sum, difference, old_value, equal, less, conjunction, disjunction, byte_at, Reading, good, bad, after, judged, good_byte, read_byte, as_name, one, two, number_operator, read_number, truth_operator, read_truth}
 use Rattle.expression.specs.Checking.{read_end, name_end}
 use Rattle.expression.specs.Operators.{number_meant, truth_meant}
@@ -42,35 +42,35 @@ two_fail {X} make operand k place e = go (operand k) e
     go (bad p) e = sym e
 
 -- a number of two numbers
-module _ (levels : ℕ) (s : Seen) (bs : List ℕ) (k : ℕ) (o : NumberOperator) (left : levels ≡ 0 → ⊥) (here : number_meant (Some o) ≡ judged number_operator (byte_at bs k)) (is : (o ≡ Sum) ⊎ (o ≡ Difference)) where
-  pub number_pair_ends : (next : ℕ) → Ok next ≡ read_end (read_number (levels - 1) s bs (k + 1)) → read_end (read_number levels s bs k) ≡ read_end (read_number (levels - 1) s bs next)
+module _ (levels inner : ℕ) (s : Seen) (bs : List ℕ) (k : ℕ) (o : NumberOperator) (left : inner + 1 ≡ levels) (here : number_meant (Some o) ≡ judged number_operator (byte_at bs k)) (is : (o ≡ Sum) ⊎ (o ≡ Difference)) where
+  pub number_pair_ends : (next : ℕ) → Ok next ≡ read_end (read_number inner s bs (k + 1)) → read_end (read_number levels s bs k) ≡ read_end (read_number inner s bs next)
   number_pair_ends next e = go is
     where
-      go : (o ≡ Sum) ⊎ (o ≡ Difference) → read_end (read_number levels s bs k) ≡ read_end (read_number (levels - 1) s bs next)
-      go (inl h) = ap read_end (number_goes levels s bs k o Sum left here h) ∙ two_end sum (read_number (levels - 1) s bs) (k + 1) next e
-      go (inr h) = ap read_end (number_goes levels s bs k o Difference left here h) ∙ two_end difference (read_number (levels - 1) s bs) (k + 1) next e
+      go : (o ≡ Sum) ⊎ (o ≡ Difference) → read_end (read_number levels s bs k) ≡ read_end (read_number inner s bs next)
+      go (inl h) = ap read_end (number_goes levels inner s bs k o Sum left here h) ∙ two_end sum (read_number inner s bs) (k + 1) next e
+      go (inr h) = ap read_end (number_goes levels inner s bs k o Difference left here h) ∙ two_end difference (read_number inner s bs) (k + 1) next e
 
-  pub number_pair_fails : (place : ℕ) → Err place ≡ read_end (read_number (levels - 1) s bs (k + 1)) → read_end (read_number levels s bs k) ≡ Err place
+  pub number_pair_fails : (place : ℕ) → Err place ≡ read_end (read_number inner s bs (k + 1)) → read_end (read_number levels s bs k) ≡ Err place
   number_pair_fails place e = go is
     where
       go : (o ≡ Sum) ⊎ (o ≡ Difference) → read_end (read_number levels s bs k) ≡ Err place
-      go (inl h) = ap read_end (number_goes levels s bs k o Sum left here h) ∙ two_fail sum (read_number (levels - 1) s bs) (k + 1) place e
-      go (inr h) = ap read_end (number_goes levels s bs k o Difference left here h) ∙ two_fail difference (read_number (levels - 1) s bs) (k + 1) place e
+      go (inl h) = ap read_end (number_goes levels inner s bs k o Sum left here h) ∙ two_fail sum (read_number inner s bs) (k + 1) place e
+      go (inr h) = ap read_end (number_goes levels inner s bs k o Difference left here h) ∙ two_fail difference (read_number inner s bs) (k + 1) place e
 
 -- a truth of two numbers, or of two truths
-module _ (levels : ℕ) (s : Seen) (bs : List ℕ) (k : ℕ) (o : TruthOperator) (left : levels ≡ 0 → ⊥) (here : truth_meant (Some o) ≡ judged truth_operator (byte_at bs k)) where
-  pub comparison_ends : (o ≡ Equal) ⊎ (o ≡ Less) → (next : ℕ) → Ok next ≡ read_end (read_number (levels - 1) s bs (k + 1)) → read_end (read_truth levels s bs k) ≡ read_end (read_number (levels - 1) s bs next)
-  comparison_ends (inl h) next e = ap read_end (truth_goes levels s bs k o Equal left here h) ∙ two_end equal (read_number (levels - 1) s bs) (k + 1) next e
-  comparison_ends (inr h) next e = ap read_end (truth_goes levels s bs k o Less left here h) ∙ two_end less (read_number (levels - 1) s bs) (k + 1) next e
+module _ (levels inner : ℕ) (s : Seen) (bs : List ℕ) (k : ℕ) (o : TruthOperator) (left : inner + 1 ≡ levels) (here : truth_meant (Some o) ≡ judged truth_operator (byte_at bs k)) where
+  pub comparison_ends : (o ≡ Equal) ⊎ (o ≡ Less) → (next : ℕ) → Ok next ≡ read_end (read_number inner s bs (k + 1)) → read_end (read_truth levels s bs k) ≡ read_end (read_number inner s bs next)
+  comparison_ends (inl h) next e = ap read_end (truth_goes levels inner s bs k o Equal left here h) ∙ two_end equal (read_number inner s bs) (k + 1) next e
+  comparison_ends (inr h) next e = ap read_end (truth_goes levels inner s bs k o Less left here h) ∙ two_end less (read_number inner s bs) (k + 1) next e
 
-  pub comparison_fails : (o ≡ Equal) ⊎ (o ≡ Less) → (place : ℕ) → Err place ≡ read_end (read_number (levels - 1) s bs (k + 1)) → read_end (read_truth levels s bs k) ≡ Err place
-  comparison_fails (inl h) place e = ap read_end (truth_goes levels s bs k o Equal left here h) ∙ two_fail equal (read_number (levels - 1) s bs) (k + 1) place e
-  comparison_fails (inr h) place e = ap read_end (truth_goes levels s bs k o Less left here h) ∙ two_fail less (read_number (levels - 1) s bs) (k + 1) place e
+  pub comparison_fails : (o ≡ Equal) ⊎ (o ≡ Less) → (place : ℕ) → Err place ≡ read_end (read_number inner s bs (k + 1)) → read_end (read_truth levels s bs k) ≡ Err place
+  comparison_fails (inl h) place e = ap read_end (truth_goes levels inner s bs k o Equal left here h) ∙ two_fail equal (read_number inner s bs) (k + 1) place e
+  comparison_fails (inr h) place e = ap read_end (truth_goes levels inner s bs k o Less left here h) ∙ two_fail less (read_number inner s bs) (k + 1) place e
 
-  pub truth_pair_ends : (o ≡ And) ⊎ (o ≡ Or) → (next : ℕ) → Ok next ≡ read_end (read_truth (levels - 1) s bs (k + 1)) → read_end (read_truth levels s bs k) ≡ read_end (read_truth (levels - 1) s bs next)
-  truth_pair_ends (inl h) next e = ap read_end (truth_goes levels s bs k o And left here h) ∙ two_end conjunction (read_truth (levels - 1) s bs) (k + 1) next e
-  truth_pair_ends (inr h) next e = ap read_end (truth_goes levels s bs k o Or left here h) ∙ two_end disjunction (read_truth (levels - 1) s bs) (k + 1) next e
+  pub truth_pair_ends : (o ≡ And) ⊎ (o ≡ Or) → (next : ℕ) → Ok next ≡ read_end (read_truth inner s bs (k + 1)) → read_end (read_truth levels s bs k) ≡ read_end (read_truth inner s bs next)
+  truth_pair_ends (inl h) next e = ap read_end (truth_goes levels inner s bs k o And left here h) ∙ two_end conjunction (read_truth inner s bs) (k + 1) next e
+  truth_pair_ends (inr h) next e = ap read_end (truth_goes levels inner s bs k o Or left here h) ∙ two_end disjunction (read_truth inner s bs) (k + 1) next e
 
-  pub truth_pair_fails : (o ≡ And) ⊎ (o ≡ Or) → (place : ℕ) → Err place ≡ read_end (read_truth (levels - 1) s bs (k + 1)) → read_end (read_truth levels s bs k) ≡ Err place
-  truth_pair_fails (inl h) place e = ap read_end (truth_goes levels s bs k o And left here h) ∙ two_fail conjunction (read_truth (levels - 1) s bs) (k + 1) place e
-  truth_pair_fails (inr h) place e = ap read_end (truth_goes levels s bs k o Or left here h) ∙ two_fail disjunction (read_truth (levels - 1) s bs) (k + 1) place e
+  pub truth_pair_fails : (o ≡ And) ⊎ (o ≡ Or) → (place : ℕ) → Err place ≡ read_end (read_truth inner s bs (k + 1)) → read_end (read_truth levels s bs k) ≡ Err place
+  truth_pair_fails (inl h) place e = ap read_end (truth_goes levels inner s bs k o And left here h) ∙ two_fail conjunction (read_truth inner s bs) (k + 1) place e
+  truth_pair_fails (inr h) place e = ap read_end (truth_goes levels inner s bs k o Or left here h) ∙ two_fail disjunction (read_truth inner s bs) (k + 1) place e

@@ -1,14 +1,13 @@
 -- What a right expression is worth does not depend on the names that are seen. Assumes nothing.
-use Rattle.std.proofs.Common.{◌≡◌, ℕ, ◌≤◌, Bool, true, false, cond, ◌&&◌, eqb, ltb, leb, List, length, ℤ, pos, negsuc, ◌≤ℤ◌, Some, None, sym, refl, ap, ◌∙◌, subst, arith}
+use Rattle.std.proofs.Common.{◌≡◌, ℕ, ◌≤◌, Bool, true, false, ◌&&◌, ltb, leb, List, length, ℤ, pos, negsuc, ◌≤ℤ◌, sym, refl, ap, ◌∙◌, subst, arith}
 use borrow.Author.Differences.{ints}
-use Rattle.std.proofs.lemmas.Bool.{and_from, and_parts, eqb-true, eq-eqb, cond-true}
+use Rattle.std.proofs.lemmas.Bool.{and_from, and_parts}
 use Rattle.language.proofs.Expressions.{number_good, truth_good, whole_expressions_are_written}
 use Rattle.language.specs.ExpressionLaws.{number_read, truth_read, bad_good, number_low, number_high}
 use Rattle.language.specs.Expressions.{Number, constant, old_value, new_value, sum, difference, Truth, equal, less, negation, conjunction, disjunction, always, number_bytes, number_levels, truth_levels, number_value, truth_value, Seen, number_sees, truth_sees, Reading, good, bad, read_number, read_truth, to_the_end, whole_number, whole_truth}
 use Rattle.model.specs.Meanings.{Bytes}
 use Rattle.model.specs.States.{value}
-use Rattle.expression.specs.Evaluation.{everything, valued, number_worth, truth_worth, or_else, evaluated_number, evaluated_truth, NumberEvaluated, TruthEvaluated}
-use Rattle.expression.proofs.Worths.{some_none, same_value, same_end}
+use Rattle.expression.specs.Evaluation.{everything, number_worth, truth_worth, or_else, evaluated_number, evaluated_truth, NumberEvaluated, TruthEvaluated}
 
 name_seen : (n : ℕ) (t : Bool) → (ltb n 256 && t) ≡ true → (ltb n 256 && true) ≡ true
 name_seen n t h = and_from (ltb n 256) true (and_parts (ltb n 256) t h).0 refl
@@ -48,25 +47,6 @@ module _ (s : Seen) where
 whole_again : {X : Type 0} (all : ℕ) (r q : Reading X) (x : X) (end : ℕ) → ((y : X) (j : ℕ) → r ≡ good y j → q ≡ good y j) → to_the_end all r ≡ good x end → to_the_end all q ≡ good x end
 whole_again all (bad place) q x end f e = bad_good place x end e
 whole_again all (good y j) q x end f e = ap (to_the_end all) (f y j refl) ∙ e
-
--- an expression that ends where the bytes do has its value, and any other bytes the value that stands for none
-pub worth_whole : {X V : Type 0} (f : X → V) (other : V) (all : ℕ) (r : Reading X) (v : V) (end : ℕ) → Some (v, end) ≡ valued f r → end ≡ all → v ≡ or_else f other (to_the_end all r)
-worth_whole f other all (bad place) v end e same = some_none (v, end) e
-worth_whole f other all (good x j) v end e same =
-    let there : j ≡ all = sym (same_end v (f x) end j e) ∙ same in
-    same_value v (f x) end j e ∙ sym (ap (or_else f other) (cond-true (eqb j all) (good x j) (bad j) (eq-eqb j all there)))
-
-pub worth_left : {X V : Type 0} (f : X → V) (other : V) (all : ℕ) (r : Reading X) (v : V) (end : ℕ) → Some (v, end) ≡ valued f r → (end ≡ all → ⊥) → other ≡ or_else f other (to_the_end all r)
-worth_left f other all (bad place) v end e apart = refl
-worth_left {X} {V} f other all (good x j) v end e apart = go (eqb j all) refl
-  where
-    go : (t : Bool) → eqb j all ≡ t → other ≡ or_else f other (cond t (good x j) (bad j))
-    go true t = absurd (apart (same_end v (f x) end j e ∙ eqb-true j all t))
-    go false t = refl
-
-pub worth_none : {X V : Type 0} (f : X → V) (other : V) (all : ℕ) (r : Reading X) → None ≡ valued f r → other ≡ or_else f other (to_the_end all r)
-worth_none f other all (bad place) e = refl
-worth_none f other all (good x j) e = some_none (f x, j) (sym e)
 
 module _ (bs old new : List ℕ) where
   pub number_evaluated_read : (s : Seen) (e : Number) (end : ℕ) → whole_number 8 s bs ≡ good e end → evaluated_number bs old new ≡ number_value e (value old) (value new)

@@ -15,7 +15,8 @@ pub struct Seen {
     pub new: Names,
 }
 
-// Bytes that are read as an expression, and the names that it may use.
+// Bytes that are read as an expression, and the names that it may use. Numbers and truths have a function each, here as in the
+// evaluator: their operators and what follows these differ, and one function would take the reading as a parameter, in a cycle.
 #[derive(Clone, Copy)]
 struct Checker<'a> {
     bytes: &'a [u8],
@@ -45,9 +46,7 @@ impl Checker<'_> {
     fn number_end(&self, levels: u8, place: usize) -> Result<usize, usize>
         ensures { result ≡ read_end (read_number levels (seen_of self.now.seen.now) self.now.bytes.now place) }
     {
-        if levels == 0 {
-            return Err(place);
-        }
+        let inner = levels.checked_sub(1).ok_or(place)?;
         let operator = NumberOperator::at(self.bytes, place).ok_or(place)?;
         let first = place + 1;
         match operator {
@@ -55,8 +54,8 @@ impl Checker<'_> {
             NumberOperator::OldValue => self.name_end(&self.seen.old, first),
             NumberOperator::NewValue => self.name_end(&self.seen.new, first),
             NumberOperator::Sum | NumberOperator::Difference => {
-                let second = self.number_end(levels - 1, first)?;
-                self.number_end(levels - 1, second)
+                let second = self.number_end(inner, first)?;
+                self.number_end(inner, second)
             }
         }
     }
@@ -65,20 +64,18 @@ impl Checker<'_> {
     fn truth_end(&self, levels: u8, place: usize) -> Result<usize, usize>
         ensures { result ≡ read_end (read_truth levels (seen_of self.now.seen.now) self.now.bytes.now place) }
     {
-        if levels == 0 {
-            return Err(place);
-        }
+        let inner = levels.checked_sub(1).ok_or(place)?;
         let operator = TruthOperator::at(self.bytes, place).ok_or(place)?;
         let first = place + 1;
         match operator {
             TruthOperator::Equal | TruthOperator::Less => {
-                let second = self.number_end(levels - 1, first)?;
-                self.number_end(levels - 1, second)
+                let second = self.number_end(inner, first)?;
+                self.number_end(inner, second)
             }
-            TruthOperator::Not => self.truth_end(levels - 1, first),
+            TruthOperator::Not => self.truth_end(inner, first),
             TruthOperator::And | TruthOperator::Or => {
-                let second = self.truth_end(levels - 1, first)?;
-                self.truth_end(levels - 1, second)
+                let second = self.truth_end(inner, first)?;
+                self.truth_end(inner, second)
             }
             TruthOperator::True => Ok(first),
         }

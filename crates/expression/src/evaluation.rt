@@ -1,8 +1,10 @@
-// What expressions are worth at old and new values.
+// What expressions are worth at old and new values. Each function makes its evaluator, at values of which it knows that they are
+// bytes: one that made it for both would be passed references, where that is not known and would be required (tried).
 ghost use Rattle.std.specs.Prelude.{◌≡◌};
 ghost use Rattle.expression.specs.Evaluation.{evaluated_number, evaluated_truth, NumberEvaluated, TruthEvaluated};
 
 use crate::evaluator::Evaluator;
+use crate::operators::LEVELS;
 use model::State;
 
 // What a right number is worth at these values; 0 if the bytes are no right number, whatever names are seen.
@@ -14,6 +16,7 @@ pub fn number_value(bytes: &[u8], old: State, new: State) -> i16
         bytes,
         old: &old,
         new: &new,
+        levels: LEVELS,
     };
     evaluator.whole_number()
 }
@@ -27,6 +30,7 @@ pub fn truth_value(bytes: &[u8], old: State, new: State) -> bool
         bytes,
         old: &old,
         new: &new,
+        levels: LEVELS,
     };
     evaluator.whole_truth()
 }

@@ -55,7 +55,8 @@ impl TryFrom<u8> for NumberOperator {
 }
 
 impl NumberOperator {
-    // As for truths: one function for both would be as long as the two.
+    // As for truths. One `operator_at<O: TryFrom<u8, Error = NoOperator>>` that both call is proved (tried), but is twelve lines
+    // longer with its contract over that of O's `try_from`: each kind keeps an `at`, to say what its operators mean.
     pub fn at(bytes: &[u8], place: usize) -> Option<NumberOperator>
         ensures { number_meant result ≡ judged number_operator (byte_at bytes.now place) }
     {

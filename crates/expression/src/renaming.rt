@@ -3,6 +3,7 @@ ghost use Rattle.expression.specs.Renaming.{next_of, NamesExchanged};
 ghost use Rattle.language.specs.Expressions.{operator, following, bytes_renamed};
 ghost use Rattle.std.specs.Prelude.{◌≡◌};
 
+use crate::operators::NumberOperator;
 use model::exchanged;
 
 // What the next byte of a written expression is.
@@ -17,9 +18,9 @@ impl Next {
     fn after_operator(byte: u8) -> Next
         ensures { next_of result ≡ following byte }
     {
-        match byte {
-            0 => Next::Constant,
-            1 | 2 => Next::Name,
+        match NumberOperator::try_from(byte) {
+            Ok(NumberOperator::Constant) => Next::Constant,
+            Ok(NumberOperator::OldValue | NumberOperator::NewValue) => Next::Name,
             _ => Next::Operator,
         }
     }

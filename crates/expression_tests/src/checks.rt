@@ -165,7 +165,7 @@ fn each_name(rt: HostRuntime) {
 }
 
 // Some bytes so many times, some others so many times, and what a check of them all answers.
-type Piled<'a> = (&'a [u8], u8, &'a [u8], u8, Result<(), usize>);
+type Piled<'a> = (&'a [u8], usize, &'a [u8], usize, Result<(), usize>);
 
 #[test]
 fn eight_levels(rt: HostRuntime) -> Result<(), Fail> {

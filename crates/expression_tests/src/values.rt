@@ -1,7 +1,8 @@
 // What expressions are worth.
-use crate::building::{nothing_seen, push_sum, repeated};
+use crate::building::{nothing_seen, repeated};
 use expression::{check_number, number_value, truth_value};
 use model::State;
+use samples::push_sum;
 use std::process::Abort;
 use std::test::Fail;
 

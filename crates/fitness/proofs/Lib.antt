@@ -1,4 +1,3 @@
-pub mod Filled
 pub mod Limits
 pub mod Tables
 pub mod Through

@@ -17,22 +17,16 @@ pub enum Check {
 }
 
 impl Check {
-    fn number(self) -> u8
-        ensures { result ≡ number_of self }
-    {
-        self as u8
-    }
-
     // A refusal at the place, if there is one.
     pub fn refused_at(self, place: Option<u8>) -> Option<Fault>
         ensures { result ≡ at_lowest (number_of self) place }
     {
-        place.map(|place| Fault::own(self.number(), place as u16))
+        place.map(|place| Fault::own(self as u8, place as u16))
     }
 
     pub fn refused_if(self, so: bool) -> Option<Fault>
         ensures { result ≡ if_so (number_of self) so }
     {
-        so.then(|| Fault::own(self.number(), 0))
+        so.then(|| Fault::own(self as u8, 0))
     }
 }

@@ -19,7 +19,9 @@ pub fn times(product: u64, factor: u64, most: u64) -> u64
     product.saturating_mul(factor).min(most)
 }
 
-// The product of what the factors are at all numbers below the bound, or the limit where it is more.
+// The product of what the factors are at all numbers below the bound, or the limit where it is more. A loop: with `fold` all was
+// proved but the answer, since what it promises of the total is of a closure that computes one function at every number, and what
+// this factor is is known below the bound alone.
 pub fn product_below<F: Fn(u8) -> u64>(bound: u8, most: u64, factor: F) -> u64
     requires callable { (k : ℕ) → k < bound → F.pre factor k }
     requires limit { 1 ≤ most }

@@ -1,16 +1,13 @@
 // Questions that the tests ask of a list, each about every number that can be asked after.
 use drawing::{Drawing, Outline};
 use gates::GateList;
-use model::{Fault, Kind, Names, Round, State};
+use model::{Fault, Kind, Round, State};
+use samples::is_just;
 use std::process::Abort;
 
 // Every fault of a gate list has number 18 and layer 0.
 pub fn check_fault(rt: &impl Abort, bytes: &[u8], place: Option<u16>) {
-    let fault = place.map(|place| Fault {
-        number: 18,
-        layer: 0,
-        place,
-    });
+    let fault = place.map(|place| Fault::own(18, place));
     assert_eq!(rt; GateList::open(bytes).fault(), fault, "{bytes:?}");
 }
 
@@ -36,11 +33,6 @@ fn has_just(list: &GateList, variables: Variables) -> bool {
 // The names that an atom controls, reads and awaits, and the number of its choices in an initialization and in an update.
 #[derive(Clone, Copy)]
 pub struct Told<'a>(pub [&'a [u8]; 3], pub [u8; 2]);
-
-// Does the set have these names and no others?
-fn is_just(set: Names, names: &[u8]) -> bool {
-    (0..=255u8).all(|name| set.has(name) == names.contains(&name))
-}
 
 fn tells(list: &GateList, atom: u8, told: Told) -> bool {
     let Told([controlled, read, awaited], [initial, update]) = told;

@@ -18,10 +18,9 @@ impl FileBytes for NoFiles {
 }
 
 fn numbers(answer: &str) -> &str {
-    match answer.split_once(" -- ") {
-        Some((numbers, _)) => numbers,
-        None => answer,
-    }
+    answer
+        .split_once(" -- ")
+        .map_or(answer, |(numbers, _)| numbers)
 }
 
 fn main(rt: HostRuntime) -> io::Result<()> {

@@ -17,7 +17,7 @@ use expression::Seen;
 use model::{Fault, Names, Round, Row};
 
 // What the choices of an atom see: new values of awaited names and, in an update, old values of read names.
-fn sight(round: Round, reads: Names, awaits: Names) -> Seen
+fn seen_in(round: Round, reads: Names, awaits: Names) -> Seen
     ensures { (v w : ℕ) → NamesOf v reads → NamesOf w awaits → seen_of result ≡ seen_in round v w }
 {
     let old = match round {
@@ -51,9 +51,9 @@ impl Reader<'_> {
         let initials = self.byte_between(Rule::Atom, 1, 8)?;
         let updates = self.byte_between(Rule::Atom, 1, 8)?;
         let size = count(&controls);
-        let first = sight(Round::Initial, reads, awaits);
+        let first = seen_in(Round::Initial, reads, awaits);
         let initial = self.choices(&first, size, initials)?;
-        let later = sight(Round::Update, reads, awaits);
+        let later = seen_in(Round::Update, reads, awaits);
         let update = self.choices(&later, size, updates)?;
         Ok(AtomLayout {
             controls,
@@ -64,7 +64,9 @@ impl Reader<'_> {
         })
     }
 
-    // So many atoms.
+    // So many atoms. `choices`, `numbers` and `variables` go on in the same way, and fill a row of another type, nothing, or an
+    // array by name: a function for all would take the reading of one item as a closure over the reader that it moves, and would
+    // be longer than each of them.
     pub fn atoms(&mut self, variables: &Variables, count: u8) -> Result<Row<AtomLayout, 16>, Fault>
         requires { count ≤ 16 }
         ensures { (vs : List TableVariable) → VariablesLaid vs variables.now → Reads (AtomsLaid self.old.bytes.now) (many (read_atom vs) count) self.old self.new result }

@@ -1,19 +1,13 @@
 -- Tests on all numbers below a bound. Assumes nothing.
-use Rattle.std.proofs.Common.{◌≡◌, ℕ, zero, suc, ◌+◌, ◌<◌, Bool, true, false, cond, ◌⊎◌, Some, None, Option, is_some, ◌||◌, Decides, refl, ap, ◌∙◌, subst, inl, inr, not-suc-le-zero, add-one, arith}
-use Rattle.std.proofs.lemmas.Bool.{and_from, or_from, cases_eq, both_ways, cond-true, cond-false}
+use Rattle.std.proofs.Common.{◌≡◌, ℕ, zero, suc, ◌+◌, ◌<◌, Bool, true, false, cond, ◌⊎◌, Some, None, Option, is_some, ◌||◌, Decides, MatchBool, get_or, length, refl, sym, ap, ◌∙◌, subst, inl, inr, not-suc-le-zero, add-one, arith}
+use Rattle.std.proofs.lemmas.Bool.{or_from, cases_eq, both_ways, cond-true, cond-false}
 use Rattle.std.proofs.lemmas.Bool.Decides.{Decides-below_and, Decides-below_or}
+use Rattle.std.proofs.lemmas.List.FromFn.{length-range_with_len, get_or-range_with_len}
+use Rattle.std.specs.List.{AllWithin, HoldsAt, range_with_len}
 use Rattle.std.specs.Option.{option_or}
-use Rattle.model.specs.Tests.{every, some, lowest, count}
+use Rattle.model.specs.Tests.{every, some, lowest, count, Answers}
 
 module _ (p : ℕ → Bool) where
-  pub every_none : every p 0 ≡ true
-  unfolding every
-  every_none = refl
-
-  pub every_more : (i : ℕ) → every p i ≡ true → p i ≡ true → every p (i + 1) ≡ true
-  unfolding every
-  every_more i h k = rw add-one (and_from (p i) (every p i) k h)
-
   itself : (b : Bool) → Decides b (b ≡ true)
   itself b = (λ e. e, λ e. e)
 
@@ -85,3 +79,16 @@ every_fails p n i l e = go (every p n) refl
     go : (b : Bool) → every p n ≡ b → b ≡ false
     go false h = refl
     go true h = absurd (both_ways (p i) e ((every_decides p n).0 h i l))
+
+-- what `all` tells of the numbers below n, where the answers are what p says
+module _ (answered : ℕ → Bool → Type 0) (p : ℕ → Bool) (n : ℕ) (h : Answers answered p n) where
+  at : (k : ℕ) (b : Bool) → k < n → answered (get_or (range_with_len 0 n) k 0) b → p k ≡ b
+  at k b l a = sym (h k b l (subst (λ i. answered i b) (get_or-range_with_len 0 n k 0 l ∙ omega arith) a))
+
+  pub every_from : (r : Bool)
+      → MatchBool r (AllWithin (λ k. answered k true) (range_with_len 0 n) 0 (length (range_with_len 0 n))) ((k : ℕ) × (k < length (range_with_len 0 n)) × HoldsAt (λ k. answered k false) (range_with_len 0 n) k)
+      → r ≡ every p n
+  every_from true all = sym ((every_decides p n).1 (λ k l. at k true l (all k 0 (omega arith) (omega (arith, length-range_with_len 0 n)))))
+  every_from false one =
+      let l : one.0 < n = omega (arith, one.1, length-range_with_len 0 n) in
+      sym (every_fails p n one.0 l (at one.0 false l (one.2 0)))

@@ -1,5 +1,6 @@
 pub mod Bounded
 pub mod Counted
+pub mod Filled
 pub mod Gathered
 pub mod Lowest
 pub mod Marks

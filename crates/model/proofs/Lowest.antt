@@ -1,8 +1,9 @@
 -- The lowest number that passes a test. Assumes nothing.
-use Rattle.std.proofs.Common.{◌≡◌, ℕ, zero, suc, ◌<◌, Bool, true, false, cond, Some, None, Option, refl, ap, ◌∙◌, subst, ⊎_elim, not-suc-le-zero, arith}
+use Rattle.std.proofs.Common.{◌≡◌, ℕ, zero, suc, ◌<◌, ◌≤◌, Bool, true, false, cond, Some, None, Option, MatchOption, refl, sym, ap, ◌∙◌, subst, ⊎_elim, not-suc-le-zero, arith}
 use Rattle.std.proofs.lemmas.Bool.{cases_eq, both_ways}
 use Rattle.std.specs.Option.{option_or}
-use Rattle.model.specs.Tests.{lowest}
+use Rattle.model.specs.Tests.{lowest, Answers}
+use Rattle.model.proofs.Bounded.{lowest_at}
 
 -- i passes, and no lower number does
 pub record Lowest (p : ℕ → Bool) (n i : ℕ) : Type 0 where
@@ -45,3 +46,11 @@ module _ (p : ℕ → Bool) where
       go : (o : Option ℕ) → Tells p n o → o ≡ None
       go None t = refl
       go (Some i) t = absurd (both_ways (p i) (c i t.inside) t.passes)
+
+-- what a search in order finds is the lowest, where the answers are what p says
+pub lowest_from : (answered : ℕ → Bool → Type 0) (p : ℕ → Bool) (n : ℕ) → Answers answered p n → (r : Option ℕ)
+    → MatchOption r ((k : ℕ) → 0 ≤ k → k < n → answered k false) (λ i. (0 ≤ i) × (i < n) × answered i true × ((k : ℕ) → 0 ≤ k → k < i → answered k false))
+    → r ≡ lowest p n
+lowest_from answered p n h None none = sym (clear_lowest p n (λ k l. sym (h k false l (none k (omega arith) l))))
+lowest_from answered p n h (Some i) found =
+    sym (lowest_at p n i found.1 (clear_lowest p i (λ k l. sym (h k false (omega (arith, found.1)) (found.3 k (omega arith) l)))) (sym (h i true found.1 found.2)))

@@ -2,6 +2,7 @@ pub mod Exchange
 pub mod Faults
 pub mod Kinds
 pub mod Meanings
+pub mod Rounds
 pub mod Rows
 pub mod Sets
 pub mod States

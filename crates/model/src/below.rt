@@ -1,5 +1,4 @@
-// Questions after all numbers below a bound. They are loops, since with `any` and `all` of a range what they promise, of any
-// test that says what the closure answers, was not proved.
+// Questions after all numbers below a bound.
 ghost use Rattle.model.specs.Tests.{every, some, lowest, count, Answers};
 ghost use Rattle.std.specs.Prelude.{◌≡◌, ◌<◌, ℕ, Bool};
 
@@ -8,12 +7,11 @@ pub fn lowest_below<F: Fn(u8) -> bool>(bound: u8, test: F) -> Option<u8>
     requires { (k : ℕ) → k < bound → F.pre test k }
     ensures { (p : ℕ → Bool) → Answers (F.post test) p bound → result ≡ lowest p bound }
 {
-    for number in 0..bound {
-        if test(number) {
-            return Some(number);
-        }
-    }
-    None
+    (0..bound).find(
+        |number|
+            requires { F.pre test number.now }
+        { test(*number) },
+    )
 }
 
 // Does the test pass at some number below the bound?
@@ -29,15 +27,12 @@ pub fn all_below<F: Fn(u8) -> bool>(bound: u8, test: F) -> bool
     requires { (k : ℕ) → k < bound → F.pre test k }
     ensures { (p : ℕ → Bool) → Answers (F.post test) p bound → result ≡ every p bound }
 {
-    for number in 0..bound {
-        if !test(number) {
-            return false;
-        }
-    }
-    true
+    (0..bound).all(test)
 }
 
-// At how many numbers below the bound does the test pass?
+// At how many numbers below the bound does the test pass? A loop: with `filter` and `count` all was proved but the answer, since
+// what the library tells of a filter is of a closure that answers as one function at every number. What this test answers is
+// known below the bound alone.
 pub fn count_below<F: Fn(u8) -> bool>(bound: u8, test: F) -> u8
     requires { (k : ℕ) → k < bound → F.pre test k }
     ensures { (p : ℕ → Bool) → Answers (F.post test) p bound → result ≡ count p bound }

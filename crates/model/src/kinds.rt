@@ -1,24 +1,27 @@
-// Kinds of variables as numbers and as words, and rounds as words.
+// Kinds of variables as numbers and as words, and rounds as words and from them.
 ghost use Rattle.std.specs.Prelude.{◌≡◌};
+ghost use Rattle.std.specs.Result.{result_ok};
 ghost use Rattle.model.specs.Kinds.{kind_number, Decodes};
+ghost use Rattle.model.specs.Rounds.{round_named};
 
 use crate::{Kind, Round};
 use std::error::Error;
 use std::fmt;
+use std::str::FromStr;
 
 // A number that stands for no kind.
 #[derive(Clone, Copy, PartialEq, Eq, Debug)]
 pub struct UnknownKind(pub u8);
 
+// A word that names no round.
+#[derive(Clone, Copy, PartialEq, Eq, Debug)]
+pub struct UnknownRound;
+
 impl From<Kind> for u8 {
     ghost from_gives = { λ kind number. number ≡ kind_number kind };
 
     fn from(kind: Kind) -> u8 {
-        match kind {
-            Kind::Private => 0,
-            Kind::Interface => 1,
-            Kind::External => 2,
-        }
+        kind as u8
     }
 }
 
@@ -63,3 +66,25 @@ impl fmt::Display for Round {
         })
     }
 }
+
+impl FromStr for Round {
+    type Err = UnknownRound;
+
+    ghost from_str_gives = { λ word r. result_ok r ≡ round_named word };
+
+    fn from_str(word: &str) -> Result<Round, UnknownRound> {
+        match word {
+            "init" => Ok(Round::Initial),
+            "update" => Ok(Round::Update),
+            _ => Err(UnknownRound),
+        }
+    }
+}
+
+impl fmt::Display for UnknownRound {
+    fn fmt<W: fmt::Write>(&self, f: &mut fmt::Formatter<W>) -> fmt::Result {
+        f.write_str("no round has this name")
+    }
+}
+
+impl Error for UnknownRound {}

@@ -13,7 +13,7 @@ mod row;
 
 pub use below::{all_below, any_below, count_below, lowest_below};
 pub use exchange::exchanged;
-pub use kinds::UnknownKind;
+pub use kinds::{UnknownKind, UnknownRound};
 pub use names::Names;
 pub use row::{Full, Row};
 
@@ -21,9 +21,9 @@ pub use row::{Full, Row};
 // or by its surroundings.
 #[derive(Clone, Copy, PartialEq, Eq, Debug)]
 pub enum Kind {
-    Private,
-    Interface,
-    External,
+    Private = 0,
+    Interface = 1,
+    External = 2,
 }
 
 // The round that gives a module its first state, or one that takes it from a state to the next.
@@ -33,8 +33,8 @@ pub enum Round {
     Update,
 }
 
-// What is wrong with a drawing: which rule, in which layer of a pile, and at which byte, name or atom. The rule is a
-// number, since the rules are an open set: each kind of drawing numbers its own.
+// What is wrong with a drawing: which rule, in which layer of a pile, and at which byte, name or atom. The rule is a number: an
+// enum of all rules would name, in this lowest crate, those of every kind of drawing above it. Each kind has its own.
 #[derive(Clone, Copy, PartialEq, Eq, Debug)]
 pub struct Fault {
     pub number: u8,
@@ -57,6 +57,16 @@ impl Fault {
 
 // A value for each of the 32 names, name 0 first.
 pub type State = [u8; 32];
+
+// A question after one choice of an atom at old and new values, which a script may still have to load.
+#[derive(Clone, Copy, Drop)]
+pub struct Question<V> {
+    pub round: Round,
+    pub atom: u8,
+    pub choice: u8,
+    pub old: V,
+    pub new: V,
+}
 
 // The value that a state gives to a name, 0 to a number above 31.
 pub fn value_of(state: State, name: u8) -> u8

@@ -18,7 +18,7 @@ pub struct Row<T, const N: usize> {
     ghost few: { count ≤ N },
 }
 
-// By hand: `Clone` cannot be derived where a type has ghost fields and a parameter.
+// By hand: tried, and `Clone` cannot be derived where a type has ghost fields and a parameter.
 impl<T: Copy, const N: usize> Clone for Row<T, N> {
     ghost is_clone = { λ row copy. copy ≡ row };
 

@@ -1,11 +1,12 @@
 // What the choices of an atom do, as the table says that has the atom.
-use crate::infix::Written;
+use crate::infix::{Written, WrittenNumber, WrittenTruth};
+use crate::listed::Listed;
 use any_drawing::{AnyDrawing, Tree};
 use drawing::{Drawing, Outline};
 use model::{Round, State, value_of};
-use piles::exchanged_state;
+use piles::Exchange;
 use std::alloc::{AllocError, Global};
-use std::array;
+use std::{array, fmt};
 use table::Table;
 
 // The choices of an atom in one kind of round, in the table that has it, and what each name is called.
@@ -17,35 +18,53 @@ struct Choices<'a> {
     naming: State,
 }
 
-impl Choices<'_> {
-    // What the choice gives, names rising as the table has them.
-    fn add_given(&self, text: &mut String, choice: u8) -> Result<(), AllocError> {
-        let controls = self.table.controls(self.atom);
-        let mut first = true;
-        for name in (0..32u8).filter(|name| controls.has(*name)) {
-            let mark = if first { "" } else { ", " };
-            first = false;
-            write!(text, "{mark}name {} := ", value_of(self.naming, name))?;
-            let number = Written {
-                bytes: self.table.number(self.round, self.atom, choice, name),
-                naming: self.naming,
-            };
-            number.add_number(text)?;
+// What a choice gives to a name, as it is called.
+#[derive(Clone, Copy)]
+struct Given<'a> {
+    name: u8,
+    number: WrittenNumber<'a>,
+}
+
+impl fmt::Display for Given<'_> {
+    fn fmt<W: fmt::Write>(&self, f: &mut fmt::Formatter<W>) -> fmt::Result {
+        write!(f, "name {} := {}", self.name, self.number)
+    }
+}
+
+impl<'a> Choices<'a> {
+    fn written(&self, bytes: &'a [u8]) -> Written<'a> {
+        Written {
+            bytes,
+            naming: self.naming,
         }
-        Ok(())
+    }
+
+    // What the choice gives, names rising as the table has them.
+    fn given(&self, heap: Global, choice: u8) -> Result<Vec<Given<'a>>, AllocError> {
+        let controls = self.table.controls(self.atom);
+        (0..32u8)
+            .filter(|name| controls.has(*name))
+            .map(|name| Given {
+                name: value_of(self.naming, name),
+                number: WrittenNumber(self.written(
+                    self.table.number(self.round, self.atom, choice, name),
+                )),
+            })
+            .collect(heap)
     }
 
     // A line for each choice, as `init 0: if true: name 4 := 0`.
-    fn add_lines(&self, text: &mut String) -> Result<(), AllocError> {
+    fn add_lines(&self, heap: Global, text: &mut String) -> Result<(), AllocError> {
         for choice in 0..self.table.choices(self.round, self.atom) {
-            write!(text, "\n    {} {choice}: if ", self.round)?;
-            let guard = Written {
-                bytes: self.table.guard(self.round, self.atom, choice),
-                naming: self.naming,
-            };
-            guard.add_truth(text)?;
-            text.push_str(": ")?;
-            self.add_given(text, choice)?;
+            let guard = self.written(self.table.guard(self.round, self.atom, choice));
+            let given = self.given(heap, choice)?;
+            write!(
+                text,
+                "\n    {} {choice}: if {}: {}",
+                self.round,
+                WrittenTruth(guard),
+                Listed::for_people(given.as_slice())
+            )?;
         }
         Ok(())
     }
@@ -53,14 +72,11 @@ impl Choices<'_> {
 
 // What names are called below a rename, where the old name stands for the new one.
 fn naming_below(naming: State, old: u8, new: u8) -> State {
-    if old < 32 && new < 32 {
-        exchanged_state(old, new, naming)
-    } else {
-        naming
-    }
+    Exchange::of(old, new).map_or(naming, |exchange| exchange.state(naming))
 }
 
 fn add_lines_below(
+    heap: Global,
     text: &mut String,
     tree: &Tree,
     atom: u8,
@@ -75,7 +91,7 @@ fn add_lines_below(
                     atom,
                     naming,
                 };
-                choices.add_lines(text)?;
+                choices.add_lines(heap, text)?;
             }
             Ok(())
         }
@@ -86,16 +102,16 @@ fn add_lines_below(
             left_atoms,
             ..
         } => match atom.checked_sub(*left_atoms) {
-            None => add_lines_below(text, left, atom, naming),
-            Some(atom) => add_lines_below(text, right, atom, naming),
+            None => add_lines_below(heap, text, left, atom, naming),
+            Some(atom) => add_lines_below(heap, text, right, atom, naming),
         },
         Tree::Rename {
             below,
             old,
             new,
             ..
-        } => add_lines_below(text, below, atom, naming_below(naming, *old, *new)),
-        Tree::Hide { below, .. } => add_lines_below(text, below, atom, naming),
+        } => add_lines_below(heap, text, below, atom, naming_below(naming, *old, *new)),
+        Tree::Hide { below, .. } => add_lines_below(heap, text, below, atom, naming),
     }
 }
 
@@ -105,6 +121,7 @@ pub fn choice_lines(heap: Global, drawing: &AnyDrawing, atom: u8) -> Result<Stri
     let mut text = String::new(heap);
     // At the top each name is called by itself.
     add_lines_below(
+        heap,
         &mut text,
         drawing.tree(),
         atom,

@@ -1,7 +1,7 @@
 // Written expressions in infix notation. Only right expressions are shown; of any other what can be read is told.
 use expression::{LEVELS, NumberOperator, TruthOperator};
 use model::{State, value_of};
-use std::alloc::AllocError;
+use std::fmt;
 
 // What is left to read of a written expression, and what each name is called.
 #[derive(Clone, Copy)]
@@ -36,46 +36,51 @@ impl Written<'_> {
 
     // A sum or difference: the right operand stands in parentheses where it is one itself.
     #[cycle(numbers)]
-    fn add_two(&mut self, text: &mut String, sign: &str, levels: u8) -> Result<(), AllocError> {
-        self.add_number_of(text, levels)?;
-        text.push_str(sign)?;
+    fn fmt_two<W: fmt::Write>(
+        &mut self,
+        f: &mut fmt::Formatter<W>,
+        sign: &str,
+        levels: u8,
+    ) -> fmt::Result {
+        self.fmt_number(f, levels)?;
+        f.write_str(sign)?;
         if !self.is_compound() {
-            return self.add_number_of(text, levels);
+            return self.fmt_number(f, levels);
         }
-        text.push_str("(")?;
-        self.add_number_of(text, levels)?;
-        text.push_str(")")
+        f.write_str("(")?;
+        self.fmt_number(f, levels)?;
+        f.write_str(")")
     }
 
-    // Adds the number that comes next.
+    // Tells the number that comes next.
     #[cycle(numbers)]
-    fn add_number_of(&mut self, text: &mut String, levels: u8) -> Result<(), AllocError> {
-        if levels == 0 {
+    fn fmt_number<W: fmt::Write>(&mut self, f: &mut fmt::Formatter<W>, levels: u8) -> fmt::Result {
+        let Some(inner) = levels.checked_sub(1) else {
             return Ok(());
-        }
+        };
         let Some(operator) = NumberOperator::at(self.bytes, 0) else {
             return Ok(());
         };
         self.next();
         match operator {
-            NumberOperator::Constant => write!(text, "{}", self.next()),
-            NumberOperator::OldValue => write!(text, "old {}", self.next_name()),
-            NumberOperator::NewValue => write!(text, "new {}", self.next_name()),
-            NumberOperator::Sum => self.add_two(text, " + ", levels - 1),
-            NumberOperator::Difference => self.add_two(text, " - ", levels - 1),
+            NumberOperator::Constant => write!(f, "{}", self.next()),
+            NumberOperator::OldValue => write!(f, "old {}", self.next_name()),
+            NumberOperator::NewValue => write!(f, "new {}", self.next_name()),
+            NumberOperator::Sum => self.fmt_two(f, " + ", inner),
+            NumberOperator::Difference => self.fmt_two(f, " - ", inner),
         }
     }
 
     // Two numbers and what stands between them.
-    fn add_comparison(
+    fn fmt_comparison<W: fmt::Write>(
         &mut self,
-        text: &mut String,
+        f: &mut fmt::Formatter<W>,
         sign: &str,
         levels: u8,
-    ) -> Result<(), AllocError> {
-        self.add_number_of(text, levels)?;
-        text.push_str(sign)?;
-        self.add_number_of(text, levels)
+    ) -> fmt::Result {
+        self.fmt_number(f, levels)?;
+        f.write_str(sign)?;
+        self.fmt_number(f, levels)
     }
 
     // Does the truth that comes next want parentheses as an operand of this one?
@@ -97,62 +102,76 @@ impl Written<'_> {
     }
 
     #[cycle(truths)]
-    fn add_operand(
+    fn fmt_operand<W: fmt::Write>(
         &mut self,
-        text: &mut String,
+        f: &mut fmt::Formatter<W>,
         outer: TruthOperator,
         levels: u8,
-    ) -> Result<(), AllocError> {
+    ) -> fmt::Result {
         if !self.wants_parentheses(outer) {
-            return self.add_truth_of(text, levels);
+            return self.fmt_truth(f, levels);
         }
-        text.push_str("(")?;
-        self.add_truth_of(text, levels)?;
-        text.push_str(")")
+        f.write_str("(")?;
+        self.fmt_truth(f, levels)?;
+        f.write_str(")")
     }
 
     // Two truths and the word between them, which is that of the operator.
     #[cycle(truths)]
-    fn add_both(
+    fn fmt_both<W: fmt::Write>(
         &mut self,
-        text: &mut String,
+        f: &mut fmt::Formatter<W>,
         operator: TruthOperator,
         word: &str,
         levels: u8,
-    ) -> Result<(), AllocError> {
-        self.add_operand(text, operator, levels)?;
-        text.push_str(word)?;
-        self.add_operand(text, operator, levels)
+    ) -> fmt::Result {
+        self.fmt_operand(f, operator, levels)?;
+        f.write_str(word)?;
+        self.fmt_operand(f, operator, levels)
     }
 
-    // Adds the truth that comes next.
+    // Tells the truth that comes next.
     #[cycle(truths)]
-    fn add_truth_of(&mut self, text: &mut String, levels: u8) -> Result<(), AllocError> {
-        if levels == 0 {
+    fn fmt_truth<W: fmt::Write>(&mut self, f: &mut fmt::Formatter<W>, levels: u8) -> fmt::Result {
+        let Some(inner) = levels.checked_sub(1) else {
             return Ok(());
-        }
+        };
         let Some(operator) = TruthOperator::at(self.bytes, 0) else {
             return Ok(());
         };
         self.next();
         match operator {
-            TruthOperator::Equal => self.add_comparison(text, " = ", levels - 1),
-            TruthOperator::Less => self.add_comparison(text, " < ", levels - 1),
+            TruthOperator::Equal => self.fmt_comparison(f, " = ", inner),
+            TruthOperator::Less => self.fmt_comparison(f, " < ", inner),
             TruthOperator::Not => {
-                text.push_str("not ")?;
-                self.add_operand(text, operator, levels - 1)
+                f.write_str("not ")?;
+                self.fmt_operand(f, operator, inner)
             }
-            TruthOperator::And => self.add_both(text, operator, " and ", levels - 1),
-            TruthOperator::Or => self.add_both(text, operator, " or ", levels - 1),
-            TruthOperator::True => text.push_str("true"),
+            TruthOperator::And => self.fmt_both(f, operator, " and ", inner),
+            TruthOperator::Or => self.fmt_both(f, operator, " or ", inner),
+            TruthOperator::True => f.write_str("true"),
         }
     }
+}
 
-    pub fn add_number(mut self, text: &mut String) -> Result<(), AllocError> {
-        self.add_number_of(text, LEVELS)
+// What is written, read as a number.
+#[derive(Clone, Copy)]
+pub struct WrittenNumber<'a>(pub Written<'a>);
+
+// What is written, read as a truth.
+#[derive(Clone, Copy)]
+pub struct WrittenTruth<'a>(pub Written<'a>);
+
+impl fmt::Display for WrittenNumber<'_> {
+    fn fmt<W: fmt::Write>(&self, f: &mut fmt::Formatter<W>) -> fmt::Result {
+        let mut written = self.0;
+        written.fmt_number(f, LEVELS)
     }
+}
 
-    pub fn add_truth(mut self, text: &mut String) -> Result<(), AllocError> {
-        self.add_truth_of(text, LEVELS)
+impl fmt::Display for WrittenTruth<'_> {
+    fn fmt<W: fmt::Write>(&self, f: &mut fmt::Formatter<W>) -> fmt::Result {
+        let mut written = self.0;
+        written.fmt_truth(f, LEVELS)
     }
 }

@@ -3,5 +3,7 @@
 
 mod choices;
 mod infix;
+mod listed;
 
 pub use choices::choice_lines;
+pub use listed::Listed;

@@ -27,9 +27,8 @@ fn next(table: &AwaitTable, placed: &Names) -> Option<u8>
     lowest_below(table.atoms(), |atom| is_ready(table, placed, atom))
 }
 
-// The atoms in order, where making it never gets stuck. In an array, since each place is filled once: a row would ask each time
-// whether there is room. The places are counted: tried with iter_mut().take(..), where the proof knows nothing of the array in the
-// loop, which it returns there too.
+// The atoms in order, where making it never gets stuck. In an array of sixteen, as a unit keeps it. The places are counted: tried
+// with iter_mut().take(..), where the proof knows nothing of the array in the loop, which it returns there too.
 fn order_by(table: &AwaitTable) -> [u8; 16]
     ensures long { length result ≡ 16 }
     ensures ordered { NeverStuck (direct table.now) table.now.atoms → InOrder (direct table.now) table.now.atoms result }

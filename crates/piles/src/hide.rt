@@ -1,15 +1,15 @@
 // A drawing with one of its interface names made private.
 ghost use Rattle.composition.specs.Faults.{fault_of_hidden};
 ghost use Rattle.composition.specs.Meanings.{hidden};
-ghost use Rattle.composition.specs.Outlines.{hidden_outline};
-ghost use Rattle.std.specs.Prelude.{◌≡◌};
+ghost use Rattle.composition.specs.Outlines.{hidden_outline, sound_or};
+ghost use Rattle.std.specs.Prelude.{◌≡◌, None, Some, option_copied};
 ghost use Rattle.std.proofs.Common.{rules};
 
 use crate::faults::{hide_fault, told};
 use drawing::{Drawing, Outline};
 use model::{Fault, Kind, Names, Round, State};
 
-// The fault is kept as it was when the name was hidden.
+// The fault is kept as it was when the name was hidden. It stands beside the drawing below, as a rename's does.
 #[derive(Drop)]
 pub struct Hide<D: Outline> {
     below: D,
@@ -27,6 +27,13 @@ impl<D: Outline> Hide<D> {
         let fault = hide_fault(&below, name);
         Hide { below, name, fault }
     }
+
+    // The drawing below, where there is no fault.
+    fn sound(&self) -> Option<&D>
+        ensures { option_copied result ≡ sound_or self.now.fault None (Some self.now.below) }
+    {
+        self.fault.is_none().then_some(&self.below)
+    }
 }
 
 impl<D: Outline> Outline for Hide<D> {
@@ -37,50 +44,39 @@ impl<D: Outline> Outline for Hide<D> {
     }
 
     fn layers(&self) -> u8 {
-        told(1 + u16::from(self.below.layers()))
+        told(u16::from(self.below.layers()).saturating_add(1))
     }
 
     fn kind(&self, name: u8) -> Option<Kind> {
-        match self.fault {
-            Some(_) => None,
-            None if name == self.name => Some(Kind::Private),
-            None => self.below.kind(name),
+        let below = self.sound()?;
+        if name == self.name {
+            Some(Kind::Private)
+        } else {
+            below.kind(name)
         }
     }
 
     fn top(&self, name: u8) -> u8 {
-        match self.fault {
-            Some(_) => 0,
-            None => self.below.top(name),
-        }
+        self.sound().map_or(0, |below| below.top(name))
     }
 
     fn atoms(&self) -> u8 {
-        match self.fault {
-            Some(_) => 0,
-            None => self.below.atoms(),
-        }
+        self.sound().map_or(0, |below| below.atoms())
     }
 
     fn controls(&self, atom: u8) -> Names {
-        match self.fault {
-            Some(_) => Names::none(),
-            None => self.below.controls(atom),
-        }
+        self.sound()
+            .map_or(Names::none(), |below| below.controls(atom))
     }
 
     fn reads(&self, atom: u8) -> Names {
-        match self.fault {
-            Some(_) => Names::none(),
-            None => self.below.reads(atom),
-        }
+        self.sound()
+            .map_or(Names::none(), |below| below.reads(atom))
     }
 
     fn awaits(&self, atom: u8) -> Names {
-        match self.fault {
-            Some(_) => Names::none(),
-            None => self.below.awaits(atom),
-        }
+        self.sound()
+            .map_or(Names::none(), |below| below.awaits(atom))
     }
 }
 
@@ -90,23 +86,15 @@ impl<D: Drawing> Drawing for Hide<D> {
     ghost agree = { Prim.search rules };
 
     fn choices(&self, round: Round, atom: u8) -> u8 {
-        match self.fault {
-            Some(_) => 0,
-            None => self.below.choices(round, atom),
-        }
+        self.sound().map_or(0, |below| below.choices(round, atom))
     }
 
     fn is_open(&self, round: Round, atom: u8, choice: u8, old: State, new: State) -> bool {
-        match self.fault {
-            Some(_) => false,
-            None => self.below.is_open(round, atom, choice, old, new),
-        }
+        self.sound()
+            .is_some_and(|below| below.is_open(round, atom, choice, old, new))
     }
 
     fn gives(&self, round: Round, atom: u8, choice: u8, name: u8, old: State, new: State) -> i16 {
-        match self.fault {
-            Some(_) => 0,
-            None => self.below.gives(round, atom, choice, name, old, new),
-        }
+        self.sound().map_or(0, |below| below.gives(round, atom, choice, name, old, new))
     }
 }

@@ -2,14 +2,15 @@
 ghost use Rattle.composition.specs.Faults.{fault_of_joined};
 ghost use Rattle.composition.specs.Meanings.{joined};
 ghost use Rattle.composition.specs.Outlines.{joined_kind, joined_outline};
-ghost use Rattle.std.specs.Prelude.{◌≡◌};
+ghost use Rattle.std.specs.Prelude.{◌≡◌, None, IfNone, IfSome, IsSome};
 ghost use Rattle.std.proofs.Common.{rules};
 
 use crate::faults::{join_fault, told};
 use drawing::{Drawing, Outline};
 use model::{Fault, Kind, Names, Round, State};
 
-// The fault, and how many atoms the left part has, are kept as they were when the join was made.
+// The fault, and how many atoms the left part has, are kept as they were when the join was made. The fault stands beside the
+// parts, as a rename's does.
 #[derive(Drop)]
 pub struct Join<L: Outline, R: Outline> {
     left: L,
@@ -35,6 +36,14 @@ impl<L: Outline, R: Outline> Join<L, R> {
             left_atoms,
         }
     }
+
+    // The two parts, where there is no fault.
+    fn sound(&self) -> Option<(&L, &R)>
+        ensures fault { IfNone result (IsSome self.now.fault) }
+        ensures parts { IfSome result (λ p. (self.now.fault ≡ None) × (p.0.now ≡ self.now.left) × (p.1.now ≡ self.now.right)) }
+    {
+        self.fault.is_none().then_some((&self.left, &self.right))
+    }
 }
 
 // The kind of a name of the whole by its kinds in the parts: external only if it is so wherever it is there.
@@ -59,49 +68,53 @@ impl<L: Outline, R: Outline> Outline for Join<L, R> {
     }
 
     fn kind(&self, name: u8) -> Option<Kind> {
-        match self.fault {
-            Some(_) => None,
-            None => joined_kind(self.left.kind(name), self.right.kind(name)),
-        }
+        let (left, right) = self.sound()?;
+        joined_kind(left.kind(name), right.kind(name))
     }
 
     fn top(&self, name: u8) -> u8 {
-        match self.fault {
-            Some(_) => 0,
-            None if self.left.kind(name).is_some() => self.left.top(name),
-            None => self.right.top(name),
-        }
+        self.sound().map_or(0, |(left, right)| {
+            if left.kind(name).is_some() {
+                left.top(name)
+            } else {
+                right.top(name)
+            }
+        })
     }
 
     fn atoms(&self) -> u8 {
-        match self.fault {
-            Some(_) => 0,
-            None => self.left_atoms + self.right.atoms(),
-        }
+        self.sound()
+            .map_or(0, |(_, right)| self.left_atoms + right.atoms())
     }
 
     fn controls(&self, atom: u8) -> Names {
-        match self.fault {
-            Some(_) => Names::none(),
-            None if atom < self.left_atoms => self.left.controls(atom),
-            None => self.right.controls(atom - self.left_atoms),
-        }
+        self.sound().map_or(Names::none(), |(left, right)| {
+            if atom < self.left_atoms {
+                left.controls(atom)
+            } else {
+                right.controls(atom - self.left_atoms)
+            }
+        })
     }
 
     fn reads(&self, atom: u8) -> Names {
-        match self.fault {
-            Some(_) => Names::none(),
-            None if atom < self.left_atoms => self.left.reads(atom),
-            None => self.right.reads(atom - self.left_atoms),
-        }
+        self.sound().map_or(Names::none(), |(left, right)| {
+            if atom < self.left_atoms {
+                left.reads(atom)
+            } else {
+                right.reads(atom - self.left_atoms)
+            }
+        })
     }
 
     fn awaits(&self, atom: u8) -> Names {
-        match self.fault {
-            Some(_) => Names::none(),
-            None if atom < self.left_atoms => self.left.awaits(atom),
-            None => self.right.awaits(atom - self.left_atoms),
-        }
+        self.sound().map_or(Names::none(), |(left, right)| {
+            if atom < self.left_atoms {
+                left.awaits(atom)
+            } else {
+                right.awaits(atom - self.left_atoms)
+            }
+        })
     }
 }
 
@@ -111,30 +124,32 @@ impl<L: Drawing, R: Drawing> Drawing for Join<L, R> {
     ghost agree = { Prim.search rules };
 
     fn choices(&self, round: Round, atom: u8) -> u8 {
-        match self.fault {
-            Some(_) => 0,
-            None if atom < self.left_atoms => self.left.choices(round, atom),
-            None => self.right.choices(round, atom - self.left_atoms),
-        }
+        self.sound().map_or(0, |(left, right)| {
+            if atom < self.left_atoms {
+                left.choices(round, atom)
+            } else {
+                right.choices(round, atom - self.left_atoms)
+            }
+        })
     }
 
     fn is_open(&self, round: Round, atom: u8, choice: u8, old: State, new: State) -> bool {
-        match self.fault {
-            Some(_) => false,
-            None if atom < self.left_atoms => self.left.is_open(round, atom, choice, old, new),
-            None => self
-                .right
-                .is_open(round, atom - self.left_atoms, choice, old, new),
-        }
+        self.sound().is_some_and(|(left, right)| {
+            if atom < self.left_atoms {
+                left.is_open(round, atom, choice, old, new)
+            } else {
+                right.is_open(round, atom - self.left_atoms, choice, old, new)
+            }
+        })
     }
 
     fn gives(&self, round: Round, atom: u8, choice: u8, name: u8, old: State, new: State) -> i16 {
-        match self.fault {
-            Some(_) => 0,
-            None if atom < self.left_atoms => self.left.gives(round, atom, choice, name, old, new),
-            None => self
-                .right
-                .gives(round, atom - self.left_atoms, choice, name, old, new),
-        }
+        self.sound().map_or(0, |(left, right)| {
+            if atom < self.left_atoms {
+                left.gives(round, atom, choice, name, old, new)
+            } else {
+                right.gives(round, atom - self.left_atoms, choice, name, old, new)
+            }
+        })
     }
 }

@@ -9,9 +9,8 @@ mod join;
 mod rename;
 mod rules;
 
-pub use exchange::{exchanged_names, exchanged_state};
+pub use exchange::Exchange;
 pub use faults::{hide_fault, join_fault, rename_fault, told};
 pub use hide::Hide;
 pub use join::{Join, joined_kind};
-pub use model::exchanged;
 pub use rename::Rename;

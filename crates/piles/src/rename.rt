@@ -2,15 +2,16 @@
 ghost use Rattle.composition.specs.Faults.{fault_of_renamed};
 ghost use Rattle.composition.specs.Meanings.{renamed};
 ghost use Rattle.composition.specs.Outlines.{renamed_outline};
-ghost use Rattle.std.specs.Prelude.{◌≡◌, ◌<◌, None};
+ghost use Rattle.std.specs.Prelude.{◌≡◌, ◌<◌, None, IfNone, IfSome, IsSome};
 ghost use Rattle.std.proofs.Common.{rules};
 
-use crate::exchange::{exchanged_names, exchanged_state};
+use crate::exchange::Exchange;
 use crate::faults::{rename_fault, told};
 use drawing::{Drawing, Outline};
-use model::{Fault, Kind, Names, Round, State, exchanged};
+use model::{Fault, Kind, Names, Round, State};
 
-// The fault is kept as it was when the rename was made.
+// The fault is kept as it was when the rename was made. It stands beside the drawing below, in no Result with it, since a faulty
+// rename has that drawing too and counts its layers.
 #[derive(Drop)]
 pub struct Rename<D: Outline> {
     below: D,
@@ -39,6 +40,18 @@ impl<D: Drawing> Rename<D> {
     }
 }
 
+impl<D: Outline> Rename<D> {
+    // The drawing below and the two names that change places, where there is no fault.
+    fn sound(&self) -> Option<(&D, Exchange)>
+        ensures fault { IfNone result (IsSome self.now.fault) }
+        ensures below { IfSome result (λ p. (self.now.fault ≡ None) × (p.0.now ≡ self.now.below)) }
+        ensures names { IfSome result (λ p. (p.1.one ≡ self.now.old) × (p.1.other ≡ self.now.new)) }
+    {
+        let exchange = Exchange::of(self.old, self.new)?;
+        self.fault.is_none().then_some((&self.below, exchange))
+    }
+}
+
 impl<D: Outline> Outline for Rename<D> {
     ghost outline = { λ p. renamed_outline (D.Outline.outline p.below) p.old p.new };
 
@@ -47,85 +60,70 @@ impl<D: Outline> Outline for Rename<D> {
     }
 
     fn layers(&self) -> u8 {
-        told(1 + u16::from(self.below.layers()))
+        told(u16::from(self.below.layers()).saturating_add(1))
     }
 
     fn kind(&self, name: u8) -> Option<Kind> {
-        match self.fault {
-            Some(_) => None,
-            None => self.below.kind(exchanged(self.old, self.new, name)),
-        }
+        let (below, exchange) = self.sound()?;
+        below.kind(exchange.name(name))
     }
 
     fn top(&self, name: u8) -> u8 {
-        match self.fault {
-            Some(_) => 0,
-            None => self.below.top(exchanged(self.old, self.new, name)),
-        }
+        self.sound()
+            .map_or(0, |(below, exchange)| below.top(exchange.name(name)))
     }
 
     fn atoms(&self) -> u8 {
-        match self.fault {
-            Some(_) => 0,
-            None => self.below.atoms(),
-        }
+        self.sound().map_or(0, |(below, _)| below.atoms())
     }
 
     fn controls(&self, atom: u8) -> Names {
-        match self.fault {
-            Some(_) => Names::none(),
-            None => exchanged_names(self.old, self.new, self.below.controls(atom)),
-        }
+        self.sound().map_or(Names::none(), |(below, exchange)| {
+            exchange.names(below.controls(atom))
+        })
     }
 
     fn reads(&self, atom: u8) -> Names {
-        match self.fault {
-            Some(_) => Names::none(),
-            None => exchanged_names(self.old, self.new, self.below.reads(atom)),
-        }
+        self.sound().map_or(Names::none(), |(below, exchange)| {
+            exchange.names(below.reads(atom))
+        })
     }
 
     fn awaits(&self, atom: u8) -> Names {
-        match self.fault {
-            Some(_) => Names::none(),
-            None => exchanged_names(self.old, self.new, self.below.awaits(atom)),
-        }
+        self.sound().map_or(Names::none(), |(below, exchange)| {
+            exchange.names(below.awaits(atom))
+        })
     }
 }
 
 // The drawing below sees its own names: old and new values are told to it with the two names exchanged.
+// Two questions return early, since what the states are would be lost to the proof inside a closure.
 impl<D: Drawing> Drawing for Rename<D> {
     ghost meaning = { λ p. renamed (D.Drawing.meaning p.below) p.old p.new };
 
     ghost agree = { Prim.search rules };
 
     fn choices(&self, round: Round, atom: u8) -> u8 {
-        match self.fault {
-            Some(_) => 0,
-            None => self.below.choices(round, atom),
-        }
+        self.sound()
+            .map_or(0, |(below, _)| below.choices(round, atom))
     }
 
     fn is_open(&self, round: Round, atom: u8, choice: u8, old: State, new: State) -> bool {
-        match self.fault {
-            Some(_) => false,
-            None => {
-                let old = exchanged_state(self.old, self.new, old);
-                let new = exchanged_state(self.old, self.new, new);
-                self.below.is_open(round, atom, choice, old, new)
-            }
-        }
+        let Some((below, exchange)) = self.sound() else {
+            return false;
+        };
+        let old = exchange.state(old);
+        let new = exchange.state(new);
+        below.is_open(round, atom, choice, old, new)
     }
 
     fn gives(&self, round: Round, atom: u8, choice: u8, name: u8, old: State, new: State) -> i16 {
-        match self.fault {
-            Some(_) => 0,
-            None => {
-                let name = exchanged(self.old, self.new, name);
-                let old = exchanged_state(self.old, self.new, old);
-                let new = exchanged_state(self.old, self.new, new);
-                self.below.gives(round, atom, choice, name, old, new)
-            }
-        }
+        let Some((below, exchange)) = self.sound() else {
+            return 0;
+        };
+        let name = exchange.name(name);
+        let old = exchange.state(old);
+        let new = exchange.state(new);
+        below.gives(round, atom, choice, name, old, new)
     }
 }

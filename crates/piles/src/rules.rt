@@ -7,32 +7,18 @@ use model::Fault;
 
 #[derive(Clone, Copy, PartialEq, Eq, Debug)]
 pub enum Rule {
-    NewNameIsFree,
-    HiddenIsInterface,
-    KindsAgree,
-    TopsAgree,
-    FewAtoms,
-}
-
-impl From<Rule> for u8 {
-    ghost from_gives = { λ rule number. number ≡ rule_number rule };
-
-    fn from(rule: Rule) -> u8 {
-        match rule {
-            Rule::NewNameIsFree => 7,
-            Rule::HiddenIsInterface => 8,
-            Rule::KindsAgree => 9,
-            Rule::TopsAgree => 10,
-            Rule::FewAtoms => 11,
-        }
-    }
+    NewNameIsFree = 7,
+    HiddenIsInterface = 8,
+    KindsAgree = 9,
+    TopsAgree = 10,
+    FewAtoms = 11,
 }
 
 impl Rule {
-    // The fault of a pile that breaks the rule itself, at this name.
+    // The fault of a pile that breaks the rule itself, at this name, or at 0 where no name is meant.
     pub fn broken(self, name: u8) -> Fault
         ensures { result ≡ own (rule_number self) name }
     {
-        Fault::own(u8::from(self), u16::from(name))
+        Fault::own(self as u8, u16::from(name))
     }
 }

@@ -3,6 +3,7 @@ use crate::asking::*;
 use crate::sketch::Sketch;
 use model::Fault;
 use piles::{Hide, Join, Rename, join_fault};
+use samples::{faulty, not};
 
 #[test]
 fn joins_that_clash(rt: HostRuntime) {

@@ -3,6 +3,7 @@ use crate::asking::*;
 use drawing::{Drawing, Outline};
 use model::{Kind, Round};
 use piles::{Hide, Join, Rename};
+use samples::{is_just, not};
 
 #[test]
 fn kinds_of_names(rt: HostRuntime) {

@@ -2,8 +2,9 @@
 use crate::sealed::Sealed;
 use any_drawing::{AnyDrawing, Tree};
 use drawing::Outline;
+use model::{Question, State};
 use std::alloc::{AllocError, Global};
-use wording::{Question, ask_text, opening_text, outline_text, verdict_text};
+use wording::{ask_text, opening_text, outline_text, verdict_text};
 
 // A unit is boxed, since it is much larger than a drawing.
 #[derive(Drop)]
@@ -51,7 +52,7 @@ impl Made {
     }
 
     // What is answered to `ask`: of a unit, after a choice of its drawing.
-    pub fn ask(&self, heap: Global, question: &Question) -> Result<String, AllocError> {
+    pub fn ask(&self, heap: Global, question: &Question<State>) -> Result<String, AllocError> {
         ask_text(heap, self.drawing(), question)
     }
 }

@@ -33,7 +33,8 @@ impl Session {
         }
     }
 
-    // Does what a line asks for, and tells what to answer, if anything. A line that is refused alters nothing.
+    // Does what a line asks for, and tells what to answer, if anything. A line that is refused alters nothing,
+    // unless memory ran out over it.
     pub fn run<F: FileBytes>(&mut self, files: &F, line: &[u8]) -> Result<Option<String>, Mistake>
         ensures vocabulary { self.new.vocabulary ≡ self.old.vocabulary }
         ensures things { Ran self.old.vocabulary line.now self.old.things self.new.things result }
@@ -42,6 +43,7 @@ impl Session {
         self.run_line(files, line)
     }
 
+    // The same, without what follows from these promises over gate lists: it is proved of them once, and not on each way through.
     fn run_line<F: FileBytes>(&mut self, files: &F, line: &[u8]) -> Result<Option<String>, Mistake>
         ensures vocabulary { self.new.vocabulary ≡ self.old.vocabulary }
         ensures things { Ran self.old.vocabulary line.now self.old.things self.new.things result }

@@ -2,7 +2,7 @@
 use model::{Names, State};
 
 // What is looked for: values at which no choice is open, or at which an open one gives a value out of range. The two are named,
-// no closures, since the definitions tell them apart by name and each of them is asked at one place.
+// no closures: definitions and promises tell them apart by name.
 #[derive(Clone, Copy, PartialEq, Eq, Debug)]
 pub enum Test {
     NothingOpen,
@@ -11,7 +11,7 @@ pub enum Test {
 
 // The atom's number, how many choices it has in the round, the names that it controls, the top of each name, and the largest
 // value at each place: those of the 32 old values first, then those of the new ones, 0 for what the atom does not see. They are
-// one row of 64 places, since one walk goes through old and new values alike.
+// one array of 64 places, since one walk goes through old and new values alike.
 #[derive(Clone, Copy)]
 pub struct Look {
     pub test: Test,

@@ -77,8 +77,8 @@ impl<D: Drawing> Search<'_, D> {
     }
 
     // The first values at the places from this one on, where all are 0 so far. Places that have no other value are passed over.
-    // The values are a loop, no find_map: for a closure that calls this function nothing is inferred, and it would repeat the whole
-    // contract.
+    // The values are a loop, no find_map: for a closure that calls this function nothing is inferred, and it would repeat the
+    // whole contract.
     pub fn first_from(&self, place: u8, sight: Sight) -> Option<Sight>
         requires inside { place ≤ 64 }
         requires blank { BlankFrom place sight }

@@ -1,25 +1,20 @@
 -- What a table keeps is what it was opened from. Assumes nothing.
-use Rattle.std.proofs.Common.{◌≡◌, ℕ, ◌<◌, ◌≤◌, ◌⊎◌, List, [], length, Ok, Err, Result, sym, ap, ◌∙◌, subst, inl, inr, arith}
+use Rattle.std.proofs.Common.{◌≡◌, ℕ, ◌<◌, ◌≤◌, ◌⊎◌, List, [], length, replicate, Ok, Err, Result, refl, sym, ap, ◌∙◌, subst, inl, inr, arith}
 use Rattle.std.proofs.lemmas.List.{length-replicate}
 use Rattle.std.proofs.lemmas.Bool.{cases_lt}
-use Rattle.model.specs.Rows.{Filled}
+use Rattle.std.specs.Result.{ForErr}
 use Rattle.model.specs.declared.Fault.{Fault}
-use Rattle.model.specs.declared.row.Full.{Full}
 use Rattle.model.specs.declared.row.Row.{Row}
 use Rattle.language.proofs.TableFronts.{faults_are_the_first}
 use Rattle.language.specs.Tables.{TableSyntax, opened, refused, fault_of, table_opened}
 use Rattle.layout.specs.Read.{Opens, Read}
 use Rattle.layout.specs.declared.parts.Layout.{Layout}
-use Rattle.table.specs.Contents.{too_many, held}
-
-too_long : length too_many ≡ 4097
-unfolding too_many
-too_long = length-replicate {A = ℕ} 4097 0
+use Rattle.table.specs.Contents.{Copied, held}
 
 -- where there are too many, none are kept
-pub none_kept : (kept : Result (Row ℕ 4096) Full) (full : Full) → kept ≡ Err full → length (held kept) ≤ 4096 → [] ≡ held kept
-none_kept (Ok row) full e h = cc
-none_kept (Err _) full e h = absurd (omega (arith, too_long))
+pub none_kept : (kept : Result (Row ℕ 4096) ℕ) (size : ℕ) → kept ≡ Err size → ForErr kept (λ n. 4096 < n) → length (held kept) ≤ 4096 → [] ≡ held kept
+none_kept (Ok row) size e many h = cc
+none_kept (Err n) size e many h = absurd (omega (arith, length-replicate {A = ℕ} n 0, many n refl))
 
 pub opened_short : (bs : List ℕ) (t : TableSyntax) → table_opened bs ≡ opened t → length bs ≤ 4096
 opened_short bs t e = go (cases_lt 4096 (length bs))
@@ -28,20 +23,20 @@ opened_short bs t e = go (cases_lt 4096 (length bs))
     go (inl h) = let clash : opened t ≡ refused 1 0 = sym e ∙ faults_are_the_first.too_long bs h in cc
     go (inr h) = h
 
-module _ (bs : List ℕ) (r : Result (Row ℕ 4096) Full) (filled : Filled bs r) where
+module _ (bs : List ℕ) (r : Result (Row ℕ 4096) ℕ) (copied : Copied bs r) where
   pub held_same : length bs ≤ 4096 → held r ≡ bs
-  held_same h = go r filled
+  held_same h = go r copied
     where
-      go : (o : Result (Row ℕ 4096) Full) → Filled bs o → held o ≡ bs
+      go : (o : Result (Row ℕ 4096) ℕ) → Copied bs o → held o ≡ bs
       go (Ok row) same = same
-      go (Err _) long = absurd (omega arith)
+      go (Err _) long = absurd (omega (arith, long.1))
 
   pub held_opened : table_opened (held r) ≡ table_opened bs
-  held_opened = go r filled
+  held_opened = go r copied
     where
-      go : (o : Result (Row ℕ 4096) Full) → Filled bs o → table_opened (held o) ≡ table_opened bs
+      go : (o : Result (Row ℕ 4096) ℕ) → Copied bs o → table_opened (held o) ≡ table_opened bs
       go (Ok row) same = ap table_opened same
-      go (Err _) long = faults_are_the_first.too_long too_many (omega (arith, too_long)) ∙ sym (faults_are_the_first.too_long bs long)
+      go (Err n) long = faults_are_the_first.too_long (replicate n 0) (omega (arith, long, length-replicate {A = ℕ} n 0)) ∙ sym (faults_are_the_first.too_long bs long.1)
 
   pub held_found : (found : Result Layout Fault) → Read bs found → Read (held r) found
   held_found (Ok l) w = let short : length bs ≤ 4096 = opened_short bs w.table w.is in subst (λ xs. Opens xs l) (sym (held_same short)) w

@@ -1,18 +1,21 @@
 // An opened table.
 ghost use Rattle.layout.specs.Read.{Read};
+ghost use Rattle.std.specs.Prelude.{◌<◌};
+ghost use Rattle.std.specs.Result.{ForErr};
 ghost use Rattle.table.specs.Contents.{held};
 
 use layout::Layout;
-use model::{Fault, Full, Row};
+use model::{Fault, Row};
 
 mod asking;
 pub mod drawn;
 mod opening;
 
-// A copy of the bytes, if there is room for them; and where their parts lie, or their fault.
+// A copy of the bytes, or how many they were where there is no room for them; and where their parts lie, or their fault.
 #[derive(Clone, Copy)]
 pub struct Table {
-    bytes: Result<Row<u8, 4096>, Full>,
+    bytes: Result<Row<u8, 4096>, usize>,
     found: Result<Layout, Fault>,
+    ghost many: { ForErr bytes (λ size. 4096 < size) },
     ghost read: { ∥ Read (held bytes) found ∥₁ },
 }

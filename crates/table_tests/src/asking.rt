@@ -1,6 +1,7 @@
 // Questions that the tests ask of a table.
 use drawing::{Drawing, Outline};
-use model::{Fault, Kind, Names, Round, State};
+use model::{Fault, Kind, Round, State};
+use samples::is_just;
 use std::process::Abort;
 use table::Table;
 
@@ -13,11 +14,6 @@ pub fn check_fault(rt: &impl Abort, bytes: &[u8], number: u8, place: u16) {
         "{} bytes: {bytes:?}",
         bytes.len()
     );
-}
-
-// Does the set have these names and no others?
-fn is_just(set: Names, names: &[u8]) -> bool {
-    (0..=255u8).all(|name| set.has(name) == names.contains(&name))
 }
 
 // Are these the atom's sets, controlled, read and awaited?

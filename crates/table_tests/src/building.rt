@@ -1,27 +1,10 @@
 // Long expressions and tables, put together from parts.
-use std::alloc::Global;
+use samples::push_sum;
+use std::alloc::{AllocError, Global};
 use std::test::Fail;
 
-// One variable of top 1, and one atom that controls and reads it: it starts at 0, and an update takes its old value from 1.
-pub const TOGGLE: [u8; 32] = [
-    1, 0, 1, 1, 1, 0, 0, 0, 1, 0, 0, 0, 1, 0, 0, 0, 0, 1, 1, 1, 21, 2, 0, 0, 1, 21, 5, 4, 0, 1, 1,
-    0,
-];
-
-// A sum of so many times 255, a power of two, that nests as little as it can: 3 n - 1 bytes.
-pub fn push_sum(bytes: &mut Vec<u8>, count: u32) -> Result<(), Fail> {
-    for leaf in 0..count {
-        for _ in 0..(leaf | count).trailing_zeros() {
-            bytes.push(3)?;
-        }
-        bytes.push(0)?;
-        bytes.push(255)?;
-    }
-    Ok(())
-}
-
 // 21 times 255, in 62 bytes.
-pub fn push_highest(bytes: &mut Vec<u8>) -> Result<(), Fail> {
+pub fn push_highest(bytes: &mut Vec<u8>) -> Result<(), AllocError> {
     bytes.push(3)?;
     push_sum(bytes, 16)?;
     bytes.push(3)?;
@@ -30,14 +13,14 @@ pub fn push_highest(bytes: &mut Vec<u8>) -> Result<(), Fail> {
 }
 
 // 20 times 255 taken from 0, in 62 bytes.
-pub fn push_lowest(bytes: &mut Vec<u8>) -> Result<(), Fail> {
+pub fn push_lowest(bytes: &mut Vec<u8>) -> Result<(), AllocError> {
     bytes.extend_from_slice(&[4, 0, 0, 3])?;
     push_sum(bytes, 16)?;
     push_sum(bytes, 4)
 }
 
 // Twice the negation of 5 times 255 being less than 16 times: eight levels and 64 bytes, and it holds.
-pub fn push_longest_truth(bytes: &mut Vec<u8>) -> Result<(), Fail> {
+pub fn push_longest_truth(bytes: &mut Vec<u8>) -> Result<(), AllocError> {
     bytes.extend_from_slice(&[18, 18, 17, 3])?;
     push_sum(bytes, 4)?;
     push_sum(bytes, 1)?;
@@ -52,7 +35,7 @@ pub struct LastGuard {
     pub times: u32,
 }
 
-fn push_last_guard(bytes: &mut Vec<u8>, last: LastGuard) -> Result<(), Fail> {
+fn push_last_guard(bytes: &mut Vec<u8>, last: LastGuard) -> Result<(), AllocError> {
     bytes.push(last.size)?;
     for _ in 0..last.negations {
         bytes.push(18)?;
@@ -62,7 +45,7 @@ fn push_last_guard(bytes: &mut Vec<u8>, last: LastGuard) -> Result<(), Fail> {
     push_sum(bytes, last.times)
 }
 
-fn push_guard(bytes: &mut Vec<u8>) -> Result<(), Fail> {
+fn push_guard(bytes: &mut Vec<u8>) -> Result<(), AllocError> {
     bytes.push(64)?;
     push_longest_truth(bytes)
 }

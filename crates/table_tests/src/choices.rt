@@ -1,8 +1,9 @@
 // What the choices of a table do.
 use crate::asking::{Moment, check_fault, check_gives, check_open, check_sets, check_variable};
-use crate::building::{TOGGLE, push_highest, push_longest_truth, push_lowest};
+use crate::building::{push_highest, push_longest_truth, push_lowest};
 use drawing::{Drawing, Outline};
 use model::{Kind, Round};
+use samples::TOGGLE;
 use std::test::Fail;
 use table::Table;
 

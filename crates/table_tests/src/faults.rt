@@ -1,6 +1,6 @@
 // What opening a table finds wrong, and where.
 use crate::asking::check_fault;
-use crate::building::TOGGLE;
+use samples::TOGGLE;
 use std::test::Fail;
 
 #[test]

@@ -9,7 +9,7 @@ use model::Fault;
 // The unit's number, how many rounds were opened, what is wrong with it, its phase and its claims, None where it was joined
 // with more than eight; and the atoms in an order in which each comes after those that it awaits. The order is an array, not a
 // row, since 0 is kept at all its places where the unit is unfit. The verdict is no Result with claims and order in it, since
-// both are told of an unfit unit too.
+// an unfit unit has both too, without claims and with 0 at each place.
 #[derive(Clone, Copy)]
 pub struct Core {
     pub number: u32,

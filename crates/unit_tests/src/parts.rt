@@ -3,22 +3,8 @@ ghost use Rattle.std.specs.Prelude.{◌<◌, ◌≤◌, ℕ};
 
 use drawing::Drawing;
 use gates::GateList;
+use samples::inverter;
 use unit::Unit;
-
-// The record of a NOT gate.
-fn inverter(a: u8, out: u8) -> [u8; 5] {
-    [0, a, 255, out, 255]
-}
-
-// A list of one NOT gate.
-pub fn not(a: u8, out: u8) -> GateList {
-    GateList::open(&inverter(a, out))
-}
-
-// A list whose second record has no kind: fault 18 at byte 5.
-pub fn faulty() -> GateList {
-    GateList::open(&[0, 0, 255, 1, 255, 7, 0, 255, 2, 255])
-}
 
 // A list of so many NOT gates, with the wire and the name of each by its number. The numbers are counted: tried as a zip of them
 // with the records, where the proof no longer has that a number is below the count, which the closure needs.

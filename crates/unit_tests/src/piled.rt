@@ -1,6 +1,7 @@
 // Verdicts on gate lists and piles of them.
 use crate::parts::*;
 use piles::{Hide, Join, Rename};
+use samples::{faulty, not};
 
 #[test]
 fn gate_lists(rt: HostRuntime) {

@@ -22,10 +22,7 @@ fn externals(count: u8, top: u8) -> Table
 
 // The toggle: one interface bit, 0 at first and then its opposite, here that many less its old value.
 fn toggle(from: u8) -> Table {
-    Table::open(&[
-        1, 0, 1, 1, 1, 0, 0, 0, 1, 0, 0, 0, 1, 0, 0, 0, 0, 1, 1, 1, 21, 2, 0, 0, 1, 21, 5, 4, 0,
-        from, 1, 0,
-    ])
+    Table::open(&samples::toggle(from))
 }
 
 // An atom that controls name 0 and sees eight names of four values and, if the two bytes of its set say so, a ninth of two.

@@ -1,69 +1,74 @@
--- One number more of `below` and `mask_below`. Assumes nothing.
-use Rattle.std.proofs.Common.{◌≡◌, ℕ, ◌+◌, ◌*◌, ◌%◌, ◌^◌, ◌<◌, Bool, true, false, cond, List, [], ◌∷◌, ◌++◌, ℤ, Some, None, sym, refl, ap, ◌∙◌, append-nil, mod-eq_of_lt, one-mul, pow-suc, add-one, arith}
+-- What is picked of the numbers below n, against `below` and `mask_below`. Assumes nothing.
+use Rattle.std.proofs.Common.{◌≡◌, ℕ, zero, suc, ◌+◌, ◌*◌, ◌%◌, ◌^◌, ◌<◌, ◌≤◌, Bool, true, false, cond, List, [], ◌∷◌, ◌++◌, Option, Some, None, option_map, filter, filter_map, sum_by, map-id, sym, refl, ap, ◌∙◌, mod-eq_of_lt, one-mul, pow-suc, arith}
+use Rattle.std.proofs.lemmas.List.Elements.{filter-append, filter_map-append}
+use Rattle.std.proofs.lemmas.List.FromFn.{map-range_with_len_more}
+use Rattle.std.proofs.lemmas.List.Sums.{sum_by-append}
+use Rattle.std.specs.Bool.{then_some}
+use Rattle.std.specs.List.{range_with_len, cons_option}
 use lib.Pow.{pow-lt}
 use Rattle.model.specs.Meanings.{OutlineFacts, ChoiceFacts}
 use Rattle.model.specs.States.{value}
 use Rattle.model.specs.declared.Kind.{Kind}
+use Rattle.model.specs.declared.Question.{Question}
 use Rattle.wording.specs.Told.{below, mask_below, variable_of, variable_at, assignment_at}
 use Rattle.wording.specs.declared.ask.Assignment.{Assignment}
-use Rattle.wording.specs.declared.ask.Question.{Question}
+use Rattle.wording.specs.declared.facts.Variable.{Variable}
 
-pub below_none : {X : Type 0} (f : ℕ → List X) → below f 0 ≡ []
+-- one number more
+up : (n : ℕ) → range_with_len 0 (suc n) ≡ range_with_len 0 n ++ (n ∷ [])
+up n =
+    let on : suc n ≡ n + 1 = omega arith in
+    ap (range_with_len 0) on ∙ sym (map-id (range_with_len 0 (n + 1))) ∙ map-range_with_len_more (λ k. k) 0 n n (omega arith) ∙ ap (λ l. l ++ (n ∷ [])) (map-id (range_with_len 0 n))
+
+-- where at each number h picks what f lists, `below` lists all that is picked
+picked : {X : Type 0} (h : ℕ → Option X) (f : ℕ → List X) → ((k : ℕ) → cons_option (h k) [] ≡ f k) → (n : ℕ) → filter_map h (range_with_len 0 n) ≡ below f n
 unfolding below
-below_none f = refl
+picked h f is zero = refl
+picked h f is (suc n) =
+    ap (filter_map h) (up n) ∙ filter_map-append h (range_with_len 0 n) (n ∷ []) ∙ ap (λ l. l ++ cons_option (h n) []) (picked h f is n) ∙ ap (λ l. below f n ++ l) (is n)
 
-more : {X : Type 0} (f : ℕ → List X) (n : ℕ) → below f (n + 1) ≡ below f n ++ f n
-unfolding below
-more f n = rw add-one refl
+module _ (o : OutlineFacts) where
+  abbrev pub variable_found : ℕ → Option Variable
+  variable_found n = option_map (λ k. record { name = n; kind = k; top = o.top n }) (o.kind n)
 
--- what is listed at n comes after what was listed
-pub below_push : {X : Type 0} (f : ℕ → List X) (n : ℕ) (xs ys : List X) (x : X) → xs ≡ below f n → ys ≡ xs ++ (x ∷ []) → (x ∷ []) ≡ f n → ys ≡ below f (n + 1)
-below_push f n xs ys x old new here = new ∙ ap (λ l. l ++ (x ∷ [])) old ∙ ap (λ l. below f n ++ l) here ∙ sym (more f n)
+  one : (n t : ℕ) (k : Option Kind) → cons_option (option_map (λ k. record { name = n; kind = k; top = t }) k) [] ≡ variable_of n t k
+  one n t None = refl
+  one n t (Some k) = refl
 
-pub below_pass : {X : Type 0} (f : ℕ → List X) (n : ℕ) (xs : List X) → xs ≡ below f n → f n ≡ [] → xs ≡ below f (n + 1)
-below_pass f n xs old none = old ∙ sym (append-nil (below f n)) ∙ ap (λ l. below f n ++ l) (sym none) ∙ sym (more f n)
+  pub variables_below : (n : ℕ) → filter_map variable_found (range_with_len 0 n) ≡ below (variable_at o) n
+  variables_below = picked variable_found (variable_at o) (λ n. one n (o.top n) (o.kind n))
 
-module _ (o : OutlineFacts) (n : ℕ) where
-  pub variable_there : (k : Kind) (t : ℕ) → o.kind n ≡ Some k → t ≡ o.top n → (record { name = n; kind = k; top = t } ∷ []) ≡ variable_at o n
-  variable_there k t is top = ap (λ (x : ℕ). variable_of n x (Some k)) top ∙ ap (λ z. variable_of n (o.top n) z) (sym is)
+module _ (o : OutlineFacts) (acts : ChoiceFacts) (q : Question (List ℕ)) where
+  abbrev pub assignment_found : ℕ → Option Assignment
+  assignment_found n = then_some (o.controls q.atom n) (record { name = n; value = acts.gives q.round q.atom q.choice n (value q.old) (value q.new) })
 
-  pub variable_absent : o.kind n ≡ None → variable_at o n ≡ []
-  variable_absent is = ap (λ z. variable_of n (o.top n) z) is
+  one_if : (b : Bool) (x : Assignment) → cons_option (then_some b x) [] ≡ cond b (x ∷ []) []
+  one_if true x = refl
+  one_if false x = refl
 
-module _ (o : OutlineFacts) (acts : ChoiceFacts) (q : Question) (n : ℕ) where
-  -- what the choice gives to the name
-  given : ℤ
-  given = acts.gives q.round q.atom q.choice n (value q.old) (value q.new)
+  pub assignments_below : (n : ℕ) → filter_map assignment_found (range_with_len 0 n) ≡ below (assignment_at o acts q) n
+  assignments_below = picked assignment_found (assignment_at o acts q) (λ n. one_if (o.controls q.atom n) _)
 
-  by_control : ℤ → Bool → List Assignment
-  by_control v b = cond b (record { name = n; value = v } ∷ []) []
-
-  pub assignment_there : (v : ℤ) → o.controls q.atom n ≡ true → v ≡ acts.gives q.round q.atom q.choice n (value q.old) (value q.new) → (record { name = n; value = v } ∷ []) ≡ assignment_at o acts q n
-  unfolding given by_control
-  assignment_there v controlled is = ap (λ x. by_control x true) is ∙ ap (by_control given) (sym controlled)
-
-  pub assignment_absent : o.controls q.atom n ≡ false → assignment_at o acts q n ≡ []
-  unfolding given by_control
-  assignment_absent other = ap (by_control given) other
-
-pub mask_none : (p : ℕ → Bool) → mask_below p 0 ≡ 0
-unfolding mask_below
-mask_none p = refl
-
-mask_more : (p : ℕ → Bool) (n : ℕ) → mask_below p (n + 1) ≡ mask_below p n + cond (p n) (2 ^ n) 0
-unfolding mask_below
-mask_more p n = rw add-one refl
-
-twice : (n : ℕ) → 2 ^ (n + 1) ≡ 2 ^ n + 2 ^ n
-twice n = rw (add-one, pow-suc) (omega arith)
+twice : (n : ℕ) → 2 ^ suc n ≡ 2 ^ n + 2 ^ n
+twice n = rw pow-suc (omega arith)
 
 -- a shifted one, as a number of 32 bits
-pub bit : (n : ℕ) → n < 32 → (1 * 2 ^ n) % 4294967296 ≡ 2 ^ n
-bit n few = rw one-mul (mod-eq_of_lt (pow-lt few))
+abbrev pub bit : ℕ → ℕ
+bit n = (1 * 2 ^ n) % 4294967296
 
-module _ (p : ℕ → Bool) (n m : ℕ) (old : m ≡ mask_below p n) (small : m < 2 ^ n) where
-  pub mask_there : (k : ℕ) → k ≡ m + 2 ^ n → p n ≡ true → (k ≡ mask_below p (n + 1)) × (k < 2 ^ (n + 1))
-  mask_there k is holds = (omega (arith, is, old, mask_more p n ∙ ap (λ b. mask_below p n + cond b (2 ^ n) 0) holds), omega (arith, is, twice n))
+bit_if : (b : Bool) (n : ℕ) → n < 32 → (sum_by bit (cond b (n ∷ []) []) ≡ cond b (2 ^ n) 0) × (cond b (2 ^ n) 0 ≤ 2 ^ n)
+bit_if true n few =
+    let is : bit n ≡ 2 ^ n = rw one-mul (mod-eq_of_lt (pow-lt few)) in
+    (omega (arith, is), omega arith)
+bit_if false n few = (refl, omega arith)
 
-  pub mask_absent : (k : ℕ) → k ≡ m → p n ≡ false → (k ≡ mask_below p (n + 1)) × (k < 2 ^ (n + 1))
-  mask_absent k is fails = (omega (arith, is, old, mask_more p n ∙ ap (λ b. mask_below p n + cond b (2 ^ n) 0) fails), omega (arith, is, twice n))
+-- the bits of the numbers below n that pass are those of the mask, which has n bits
+pub bits_below : (p : ℕ → Bool) (n : ℕ) → n ≤ 32 → (sum_by bit (filter p (range_with_len 0 n)) ≡ mask_below p n) × (mask_below p n < 2 ^ n)
+unfolding mask_below
+bits_below p zero few = (refl, omega arith)
+bits_below p (suc n) few =
+    let before = bits_below p n (omega arith) in
+    let here = bit_if (p n) n (omega arith) in (
+      ap (λ l. sum_by bit (filter p l)) (up n) ∙ ap (sum_by bit) (filter-append p (range_with_len 0 n) (n ∷ [])) ∙ sum_by-append bit (filter p (range_with_len 0 n)) _ ∙ ap (λ k. k + sum_by bit (cond (p n) (n ∷ []) [])) before.0 ∙ ap (λ k. mask_below p n + k) here.0,
+      omega (arith, before.1, here.1, twice n),
+    )

@@ -6,10 +6,9 @@ use Rattle.model.specs.Sets.{has}
 use Rattle.model.specs.States.{value}
 use Rattle.model.specs.declared.Fault.{Fault}
 use Rattle.model.specs.declared.Kind.{Kind}
-use Rattle.model.specs.declared.Kind.TheVariants.{Private, Interface, External}
 use Rattle.model.specs.declared.Round.TheVariants.{Initial, Update}
 use Rattle.wording.specs.declared.ask.Assignment.{Assignment}
-use Rattle.wording.specs.declared.ask.Question.{Question}
+use Rattle.model.specs.declared.Question.{Question}
 use Rattle.wording.specs.declared.ask.Reply.{Reply}
 use Rattle.wording.specs.declared.facts.Atom.{Atom}
 use Rattle.wording.specs.declared.facts.Variable.{Variable}
@@ -51,12 +50,12 @@ pub record DescribesAtoms (o : OutlineFacts) (acts : ChoiceFacts) (atoms : Vec A
   pub each : (a : ℕ) (d : Atom) → a < o.atoms → DescribesAtom o acts a (slice_index_or (vec_items atoms) a d)
 
 -- what the choice gives to a name, if its atom controls the name
-abbrev pub assignment_at : OutlineFacts → ChoiceFacts → Question → ℕ → List Assignment
+abbrev pub assignment_at : OutlineFacts → ChoiceFacts → Question (List ℕ) → ℕ → List Assignment
 assignment_at o acts q n =
     cond (o.controls q.atom n)
     (record { name = n; value = acts.gives q.round q.atom q.choice n (value q.old) (value q.new) } ∷ []) []
 
 -- whether the choice is open, and what it gives to each name that its atom controls
-pub record Replies (o : OutlineFacts) (acts : ChoiceFacts) (q : Question) (r : Reply) : Type 0 where
+pub record Replies (o : OutlineFacts) (acts : ChoiceFacts) (q : Question (List ℕ)) (r : Reply) : Type 0 where
   pub opens : r.«open» ≡ acts.opens q.round q.atom q.choice (value q.old) (value q.new)
   pub given : vec_items r.given ≡ below (assignment_at o acts q) 32

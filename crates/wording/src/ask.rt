@@ -2,20 +2,11 @@
 ghost use Rattle.wording.specs.Told.{Replies};
 ghost use Rattle.std.specs.Prelude.{IfOk};
 
-use crate::text::Listed;
 use drawing::Drawing;
-use model::{Round, State};
+use model::{Question, State};
+use notation::Listed;
 use std::alloc::{AllocError, Global};
 use std::fmt;
-
-#[derive(Clone, Copy)]
-pub struct Question {
-    pub round: Round,
-    pub atom: u8,
-    pub choice: u8,
-    pub old: State,
-    pub new: State,
-}
 
 // What a choice gives to one name.
 #[derive(Clone, Copy)]
@@ -31,18 +22,21 @@ pub struct Reply {
 }
 
 // Whether the choice is open, and what it gives to each name that its atom controls, names rising.
-pub fn reply_to<D: Drawing>(heap: Global, drawing: &D, q: &Question) -> Result<Reply, AllocError>
+pub fn reply_to<D: Drawing>(
+    heap: Global,
+    drawing: &D,
+    q: &Question<State>,
+) -> Result<Reply, AllocError>
     ensures { IfOk result (λ x. Replies (D.Outline.outline drawing.now) (D.Drawing.meaning drawing.now).acts q.now x) }
 {
     let open = drawing.is_open(q.round, q.atom, q.choice, q.old, q.new);
     let controls = drawing.controls(q.atom);
-    let mut given = Vec::new(heap);
-    for name in 0..32u8 {
-        if controls.has(name) {
-            let value = drawing.gives(q.round, q.atom, q.choice, name, q.old, q.new);
-            given.push(Assignment { name, value })?;
-        }
-    }
+    let given = (0..32u8)
+        .filter_map(|name| controls.has(name).then(|| Assignment {
+            name,
+            value: drawing.gives(q.round, q.atom, q.choice, name, q.old, q.new),
+        }))
+        .collect(heap)?;
     Ok(Reply { open, given })
 }
 
@@ -54,7 +48,11 @@ impl fmt::Display for Assignment {
 }
 
 // What is answered to `ask`.
-pub fn ask_text<D: Drawing>(heap: Global, drawing: &D, q: &Question) -> Result<String, AllocError> {
+pub fn ask_text<D: Drawing>(
+    heap: Global,
+    drawing: &D,
+    q: &Question<State>,
+) -> Result<String, AllocError> {
     let Reply { open, given } = reply_to(heap, drawing, q)?;
     let mut text = String::from_str(heap, if open { "open" } else { "closed" })?;
     for g in &given {
@@ -66,11 +64,7 @@ pub fn ask_text<D: Drawing>(heap: Global, drawing: &D, q: &Question) -> Result<S
         q.atom,
         q.choice,
         if open { "gives" } else { "would give" },
-        Listed {
-            items: given.as_slice(),
-            mark: ", ",
-            none: "nothing",
-        }
+        Listed::for_people(given.as_slice())
     )?;
     Ok(text)
 }

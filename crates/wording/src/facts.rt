@@ -13,7 +13,8 @@ pub struct Variable {
     pub top: u8,
 }
 
-// An atom's sets, and how many choices it has in each kind of round.
+// An atom's sets, and how many choices it has in each kind of round. Any kind of drawing has these facts: `AtomLayout`
+// of `layout` has the places of the choices in the bytes of a table instead of counts.
 #[derive(Clone, Copy)]
 pub struct Atom {
     pub controls: Names,
@@ -27,28 +28,25 @@ pub struct Atom {
 pub fn variables<D: Outline>(heap: Global, drawing: &D) -> Result<Vec<Variable>, AllocError>
     ensures { IfOk result (λ v. v.items ≡ below (variable_at (D.Outline.outline drawing.now)) 32) }
 {
-    let mut variables = Vec::new(heap);
-    for name in 0..32u8 {
-        if let Some(kind) = drawing.kind(name) {
-            let top = drawing.top(name);
-            variables.push(Variable { name, kind, top })?;
-        }
-    }
-    Ok(variables)
+    (0..32u8)
+        .filter_map(|name| drawing.kind(name).map(|kind| Variable {
+            name,
+            kind,
+            top: drawing.top(name),
+        }))
+        .collect(heap)
 }
 
 pub fn atoms<D: Drawing>(heap: Global, drawing: &D) -> Result<Vec<Atom>, AllocError>
     ensures { IfOk result (λ v. DescribesAtoms (D.Outline.outline drawing.now) (D.Drawing.meaning drawing.now).acts v) }
 {
-    let mut atoms = Vec::new(heap);
-    for atom in 0..drawing.atoms() {
-        atoms.push(Atom {
+    (0..drawing.atoms())
+        .map(|atom| Atom {
             controls: drawing.controls(atom),
             reads: drawing.reads(atom),
             awaits: drawing.awaits(atom),
             initial: drawing.choices(Round::Initial, atom),
             update: drawing.choices(Round::Update, atom),
-        })?;
-    }
-    Ok(atoms)
+        })
+        .collect(heap)
 }

@@ -9,7 +9,7 @@ mod rules;
 mod text;
 mod verdict;
 
-pub use ask::{Assignment, Question, Reply, ask_text, reply_to};
+pub use ask::{Assignment, Reply, ask_text, reply_to};
 pub use facts::{Atom, Variable, atoms, variables};
 pub use opening::opening_text;
 pub use outline::{outline_of, outline_text};

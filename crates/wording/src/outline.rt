@@ -5,11 +5,11 @@ ghost use Rattle.std.specs.Prelude.{◌≡◌};
 
 use crate::facts::{Atom, Variable, atoms, variables};
 use crate::rules::Words;
-use crate::text::{Listed, NameList};
+use crate::text::names_of;
 use any_drawing::AnyDrawing;
 use drawing::Drawing;
 use model::Names;
-use notation::choice_lines;
+use notation::{Listed, choice_lines};
 use std::alloc::{AllocError, Global};
 use std::fmt;
 
@@ -17,13 +17,10 @@ use std::fmt;
 fn mask(names: &Names) -> u32
     ensures { result ≡ mask_below (has names.now) 32 }
 {
-    let mut mask: u32 = 0;
-    for name in 0..32u8 {
-        if names.has(name) {
-            mask += 1 << name;
-        }
-    }
-    mask
+    (0..32u8)
+        .filter(|name| names.has(*name))
+        .map(|name| 1u32 << name)
+        .sum()
 }
 
 // The variable as `N:K:T`, for programs.
@@ -57,6 +54,7 @@ fn add_variables(text: &mut String, variables: &[Variable]) -> Result<(), AllocE
 
 // A line for each atom, and below it what is told of its choices.
 fn add_atoms<F: Fn(u8) -> Result<String, AllocError>>(
+    heap: Global,
     text: &mut String,
     atoms: &[Atom],
     choices: F,
@@ -64,12 +62,15 @@ fn add_atoms<F: Fn(u8) -> Result<String, AllocError>>(
     requires { F.IsAlwaysCallable choices }
 {
     for (atom, a) in (0..16u8).zip(atoms.iter()) {
+        let controls = names_of(heap, &a.controls)?;
+        let reads = names_of(heap, &a.reads)?;
+        let awaits = names_of(heap, &a.awaits)?;
         write!(
             text,
             "\n  atom {atom}: controls {}; reads {}; awaits {}; {} initial and {} update choices",
-            NameList(&a.controls),
-            NameList(&a.reads),
-            NameList(&a.awaits),
+            Listed::for_people(controls.as_slice()),
+            Listed::for_people(reads.as_slice()),
+            Listed::for_people(awaits.as_slice()),
             a.initial,
             a.update
         )?;
@@ -91,16 +92,8 @@ fn outline_with<D: Drawing, F: Fn(u8) -> Result<String, AllocError>>(
     let mut text = format!(in heap;
         "layers={} vars={} atoms={} -- names: {}; atoms: {}",
         drawing.layers(),
-        Listed {
-            items: variables.as_slice(),
-            mark: ",",
-            none: "-",
-        },
-        Listed {
-            items: atoms.as_slice(),
-            mark: ",",
-            none: "-",
-        },
+        Listed::for_programs(variables.as_slice()),
+        Listed::for_programs(atoms.as_slice()),
         variables.len(),
         atoms.len()
     )?;
@@ -108,7 +101,7 @@ fn outline_with<D: Drawing, F: Fn(u8) -> Result<String, AllocError>>(
         write!(text, "\n  faulty: {}", Words(fault))?;
     }
     add_variables(&mut text, variables.as_slice())?;
-    add_atoms(&mut text, atoms.as_slice(), choices)?;
+    add_atoms(heap, &mut text, atoms.as_slice(), choices)?;
     Ok(text)
 }
 

@@ -1,4 +1,6 @@
 // The rules that a drawing or a unit can break, and what is wrong with it then, for people.
+// They stand here all together, beside the enums of the crates that judge them: a fault tells a number, and words for people are
+// wanted for any number, whichever kind of drawing told it.
 ghost use Rattle.wording.specs.Rules.{Numbers};
 
 use model::Fault;

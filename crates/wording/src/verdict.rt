@@ -1,10 +1,10 @@
 // What is answered to `verdict`.
 use crate::opening::fault_numbers;
 use crate::rules::{Rule, Words};
-use crate::text::Listed;
 use drawing::{Drawing, Outline};
 use fitness::{outside_at, stuck_at};
 use model::{Fault, Names, Round, State, value_of};
+use notation::Listed;
 use sights::Sight;
 use std::alloc::{AllocError, Global};
 

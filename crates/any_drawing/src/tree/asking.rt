@@ -1,32 +1,18 @@
-// What a tree of layers answers. What is wrong with it is known from the top layer on, so each question looks there
-// first. That the layers are as they were made is asked of the caller: with a ghost field in each layer the type would lead
-// back to itself in a way that the checker cannot state.
+// What a tree of layers answers. What is wrong with it is known from the top layer on.
 ghost use Rattle.any_drawing.specs.Trees.{tree_meaning, tree_outline};
-ghost use Rattle.any_drawing.specs.Whole.{Whole};
 ghost use Rattle.model.specs.Sets.{has};
 ghost use Rattle.model.specs.States.{value};
 ghost use Rattle.std.specs.Prelude.{◌≡◌, ℕ};
 
-use super::Tree;
+use super::layer::Layer;
+use super::{Tree, WholeTree};
 use drawing::{Drawing, Outline};
 use model::{Fault, Kind, Names, Round, State};
-use piles::{exchanged, exchanged_names, exchanged_state, joined_kind, told};
+use piles::{joined_kind, told};
 
 impl Tree {
-    pub fn fault(&self) -> Option<Fault>
-        requires { Whole self.now }
-        ensures { result ≡ (tree_outline self.now).fault }
-    {
-        match self {
-            Tree::Table(table) => table.fault(),
-            Tree::Gates(list) => list.fault(),
-            Tree::Join { fault, .. } | Tree::Rename { fault, .. } | Tree::Hide { fault, .. } =>
-                *fault,
-        }
-    }
-
-    pub fn layers(&self) -> u8
-        requires { Whole self.now }
+    // A pile with a fault has layers too, so that this may be asked of any tree.
+    pub(crate) fn layers(&self) -> u8
         ensures { result ≡ (tree_outline self.now).layers }
     {
         match self {
@@ -40,251 +26,158 @@ impl Tree {
             }
         }
     }
+}
 
-    pub fn kind(&self, name: u8) -> Option<Kind>
-        requires { Whole self.now }
-        ensures { result ≡ (tree_outline self.now).kind name }
+impl WholeTree<'_> {
+    pub fn fault(self) -> Option<Fault>
+        ensures { result ≡ (tree_outline self.entry.tree.now).fault }
     {
-        if self.fault().is_some() {
-            return None;
-        }
-        match self {
-            Tree::Table(table) => table.kind(name),
-            Tree::Gates(list) => list.kind(name),
-            Tree::Join { left, right, .. } => joined_kind(left.kind(name), right.kind(name)),
-            Tree::Rename {
-                below,
-                old,
-                new,
-                ..
-            } => below.kind(exchanged(*old, *new, name)),
-            Tree::Hide { name: hidden, .. } if name == *hidden => Some(Kind::Private),
-            Tree::Hide { below, .. } => below.kind(name),
+        match self.layer() {
+            Layer::Faulty(fault) => Some(fault),
+            Layer::Table(table) => table.fault(),
+            Layer::Gates(list) => list.fault(),
+            Layer::Join { .. } | Layer::Rename { .. } | Layer::Hide { .. } => None,
         }
     }
 
-    pub fn top(&self, name: u8) -> u8
-        requires { Whole self.now }
-        ensures { result ≡ (tree_outline self.now).top name }
+    pub fn kind(self, name: u8) -> Option<Kind>
+        ensures { result ≡ (tree_outline self.entry.tree.now).kind name }
     {
-        if self.fault().is_some() {
-            return 0;
-        }
-        match self {
-            Tree::Table(table) => table.top(name),
-            Tree::Gates(list) => list.top(name),
-            Tree::Join { left, .. } if left.kind(name).is_some() => left.top(name),
-            Tree::Join { right, .. } => right.top(name),
-            Tree::Rename {
-                below,
-                old,
-                new,
-                ..
-            } => below.top(exchanged(*old, *new, name)),
-            Tree::Hide { below, .. } => below.top(name),
+        match self.layer() {
+            Layer::Faulty(_) => None,
+            Layer::Table(table) => table.kind(name),
+            Layer::Gates(list) => list.kind(name),
+            Layer::Join { left, right, .. } => joined_kind(left.kind(name), right.kind(name)),
+            Layer::Rename { below, exchange } => below.kind(exchange.name(name)),
+            Layer::Hide { name: hidden, .. } if name == hidden => Some(Kind::Private),
+            Layer::Hide { below, .. } => below.kind(name),
         }
     }
 
-    pub fn atoms(&self) -> u8
-        requires { Whole self.now }
-        ensures { result ≡ (tree_outline self.now).atoms }
+    pub fn top(self, name: u8) -> u8
+        ensures { result ≡ (tree_outline self.entry.tree.now).top name }
     {
-        if self.fault().is_some() {
-            return 0;
-        }
-        match self {
-            Tree::Table(table) => table.atoms(),
-            Tree::Gates(list) => list.atoms(),
-            Tree::Join {
-                right,
-                left_atoms,
-                ..
-            } => *left_atoms + right.atoms(),
-            Tree::Rename { below, .. } | Tree::Hide { below, .. } => below.atoms(),
+        match self.layer() {
+            Layer::Faulty(_) => 0,
+            Layer::Table(table) => table.top(name),
+            Layer::Gates(list) => list.top(name),
+            Layer::Join { left, .. } if left.kind(name).is_some() => left.top(name),
+            Layer::Join { right, .. } => right.top(name),
+            Layer::Rename { below, exchange } => below.top(exchange.name(name)),
+            Layer::Hide { below, .. } => below.top(name),
         }
     }
 
-    pub fn controls(&self, atom: u8) -> Names
-        requires { Whole self.now }
-        ensures { (n : ℕ) → has result n ≡ (tree_outline self.now).controls atom n }
+    pub fn atoms(self) -> u8
+        ensures { result ≡ (tree_outline self.entry.tree.now).atoms }
     {
-        if self.fault().is_some() {
-            return Names::none();
-        }
-        match self {
-            Tree::Table(table) => table.controls(atom),
-            Tree::Gates(list) => list.controls(atom),
-            Tree::Join {
-                left,
-                left_atoms,
-                ..
-            } if atom < *left_atoms => left.controls(atom),
-            Tree::Join {
-                right,
-                left_atoms,
-                ..
-            } => right.controls(atom - *left_atoms),
-            Tree::Rename {
-                below,
-                old,
-                new,
-                ..
-            } => exchanged_names(*old, *new, below.controls(atom)),
-            Tree::Hide { below, .. } => below.controls(atom),
+        match self.layer() {
+            Layer::Faulty(_) => 0,
+            Layer::Table(table) => table.atoms(),
+            Layer::Gates(list) => list.atoms(),
+            Layer::Join { right, count, .. } => count + right.atoms(),
+            Layer::Rename { below, .. } | Layer::Hide { below, .. } => below.atoms(),
         }
     }
 
-    pub fn reads(&self, atom: u8) -> Names
-        requires { Whole self.now }
-        ensures { (n : ℕ) → has result n ≡ (tree_outline self.now).reads atom n }
+    pub fn controls(self, atom: u8) -> Names
+        ensures { (n : ℕ) → has result n ≡ (tree_outline self.entry.tree.now).controls atom n }
     {
-        if self.fault().is_some() {
-            return Names::none();
-        }
-        match self {
-            Tree::Table(table) => table.reads(atom),
-            Tree::Gates(list) => list.reads(atom),
-            Tree::Join {
-                left,
-                left_atoms,
-                ..
-            } if atom < *left_atoms => left.reads(atom),
-            Tree::Join {
-                right,
-                left_atoms,
-                ..
-            } => right.reads(atom - *left_atoms),
-            Tree::Rename {
-                below,
-                old,
-                new,
-                ..
-            } => exchanged_names(*old, *new, below.reads(atom)),
-            Tree::Hide { below, .. } => below.reads(atom),
+        match self.layer() {
+            Layer::Faulty(_) => Names::none(),
+            Layer::Table(table) => table.controls(atom),
+            Layer::Gates(list) => list.controls(atom),
+            Layer::Join { left, count, .. } if atom < count => left.controls(atom),
+            Layer::Join { right, count, .. } => right.controls(atom - count),
+            Layer::Rename { below, exchange } => exchange.names(below.controls(atom)),
+            Layer::Hide { below, .. } => below.controls(atom),
         }
     }
 
-    pub fn awaits(&self, atom: u8) -> Names
-        requires { Whole self.now }
-        ensures { (n : ℕ) → has result n ≡ (tree_outline self.now).awaits atom n }
+    pub fn reads(self, atom: u8) -> Names
+        ensures { (n : ℕ) → has result n ≡ (tree_outline self.entry.tree.now).reads atom n }
     {
-        if self.fault().is_some() {
-            return Names::none();
-        }
-        match self {
-            Tree::Table(table) => table.awaits(atom),
-            Tree::Gates(list) => list.awaits(atom),
-            Tree::Join {
-                left,
-                left_atoms,
-                ..
-            } if atom < *left_atoms => left.awaits(atom),
-            Tree::Join {
-                right,
-                left_atoms,
-                ..
-            } => right.awaits(atom - *left_atoms),
-            Tree::Rename {
-                below,
-                old,
-                new,
-                ..
-            } => exchanged_names(*old, *new, below.awaits(atom)),
-            Tree::Hide { below, .. } => below.awaits(atom),
+        match self.layer() {
+            Layer::Faulty(_) => Names::none(),
+            Layer::Table(table) => table.reads(atom),
+            Layer::Gates(list) => list.reads(atom),
+            Layer::Join { left, count, .. } if atom < count => left.reads(atom),
+            Layer::Join { right, count, .. } => right.reads(atom - count),
+            Layer::Rename { below, exchange } => exchange.names(below.reads(atom)),
+            Layer::Hide { below, .. } => below.reads(atom),
         }
     }
 
-    pub fn choices(&self, round: Round, atom: u8) -> u8
-        requires { Whole self.now }
-        ensures { result ≡ (tree_meaning self.now).acts.choices round atom }
+    pub fn awaits(self, atom: u8) -> Names
+        ensures { (n : ℕ) → has result n ≡ (tree_outline self.entry.tree.now).awaits atom n }
     {
-        if self.fault().is_some() {
-            return 0;
+        match self.layer() {
+            Layer::Faulty(_) => Names::none(),
+            Layer::Table(table) => table.awaits(atom),
+            Layer::Gates(list) => list.awaits(atom),
+            Layer::Join { left, count, .. } if atom < count => left.awaits(atom),
+            Layer::Join { right, count, .. } => right.awaits(atom - count),
+            Layer::Rename { below, exchange } => exchange.names(below.awaits(atom)),
+            Layer::Hide { below, .. } => below.awaits(atom),
         }
-        match self {
-            Tree::Table(table) => table.choices(round, atom),
-            Tree::Gates(list) => list.choices(round, atom),
-            Tree::Join {
-                left,
-                left_atoms,
-                ..
-            } if atom < *left_atoms => left.choices(round, atom),
-            Tree::Join {
-                right,
-                left_atoms,
-                ..
-            } => right.choices(round, atom - *left_atoms),
-            Tree::Rename { below, .. } | Tree::Hide { below, .. } => below.choices(round, atom),
+    }
+
+    pub fn choices(self, round: Round, atom: u8) -> u8
+        ensures { result ≡ (tree_meaning self.entry.tree.now).acts.choices round atom }
+    {
+        match self.layer() {
+            Layer::Faulty(_) => 0,
+            Layer::Table(table) => table.choices(round, atom),
+            Layer::Gates(list) => list.choices(round, atom),
+            Layer::Join { left, count, .. } if atom < count => left.choices(round, atom),
+            Layer::Join { right, count, .. } => right.choices(round, atom - count),
+            Layer::Rename { below, .. } | Layer::Hide { below, .. } => below.choices(round, atom),
         }
     }
 
     // The drawing below a rename sees its own names: old and new values are told to it with the two names exchanged.
-    pub fn is_open(&self, round: Round, atom: u8, choice: u8, old: State, new: State) -> bool
-        requires { Whole self.now }
-        ensures { result ≡ (tree_meaning self.now).acts.opens round atom choice (value old) (value new) }
+    pub fn is_open(self, round: Round, atom: u8, choice: u8, old: State, new: State) -> bool
+        ensures { result ≡ (tree_meaning self.entry.tree.now).acts.opens round atom choice (value old) (value new) }
     {
-        if self.fault().is_some() {
-            return false;
-        }
-        match self {
-            Tree::Table(table) => table.is_open(round, atom, choice, old, new),
-            Tree::Gates(list) => list.is_open(round, atom, choice, old, new),
-            Tree::Join {
-                left,
-                left_atoms,
-                ..
-            } if atom < *left_atoms => left.is_open(round, atom, choice, old, new),
-            Tree::Join {
-                right,
-                left_atoms,
-                ..
-            } => right.is_open(round, atom - *left_atoms, choice, old, new),
-            Tree::Rename {
-                below,
-                old: one,
-                new: other,
-                ..
-            } => {
-                let old_below = exchanged_state(*one, *other, old);
-                let new_below = exchanged_state(*one, *other, new);
+        match self.layer() {
+            Layer::Faulty(_) => false,
+            Layer::Table(table) => table.is_open(round, atom, choice, old, new),
+            Layer::Gates(list) => list.is_open(round, atom, choice, old, new),
+            Layer::Join { left, count, .. } if atom < count => {
+                left.is_open(round, atom, choice, old, new)
+            }
+            Layer::Join { right, count, .. } => {
+                right.is_open(round, atom - count, choice, old, new)
+            }
+            Layer::Rename { below, exchange } => {
+                let old_below = exchange.state(old);
+                let new_below = exchange.state(new);
                 below.is_open(round, atom, choice, old_below, new_below)
             }
-            Tree::Hide { below, .. } => below.is_open(round, atom, choice, old, new),
+            Layer::Hide { below, .. } => below.is_open(round, atom, choice, old, new),
         }
     }
 
-    pub fn gives(&self, round: Round, atom: u8, choice: u8, name: u8, old: State, new: State) -> i16
-        requires { Whole self.now }
-        ensures { result ≡ (tree_meaning self.now).acts.gives round atom choice name (value old) (value new) }
+    pub fn gives(self, round: Round, atom: u8, choice: u8, name: u8, old: State, new: State) -> i16
+        ensures { result ≡ (tree_meaning self.entry.tree.now).acts.gives round atom choice name (value old) (value new) }
     {
-        if self.fault().is_some() {
-            return 0;
-        }
-        match self {
-            Tree::Table(table) => table.gives(round, atom, choice, name, old, new),
-            Tree::Gates(list) => list.gives(round, atom, choice, name, old, new),
-            Tree::Join {
-                left,
-                left_atoms,
-                ..
-            } if atom < *left_atoms => left.gives(round, atom, choice, name, old, new),
-            Tree::Join {
-                right,
-                left_atoms,
-                ..
-            } => right.gives(round, atom - *left_atoms, choice, name, old, new),
-            Tree::Rename {
-                below,
-                old: one,
-                new: other,
-                ..
-            } => {
-                let name_below = exchanged(*one, *other, name);
-                let old_below = exchanged_state(*one, *other, old);
-                let new_below = exchanged_state(*one, *other, new);
+        match self.layer() {
+            Layer::Faulty(_) => 0,
+            Layer::Table(table) => table.gives(round, atom, choice, name, old, new),
+            Layer::Gates(list) => list.gives(round, atom, choice, name, old, new),
+            Layer::Join { left, count, .. } if atom < count => {
+                left.gives(round, atom, choice, name, old, new)
+            }
+            Layer::Join { right, count, .. } => {
+                right.gives(round, atom - count, choice, name, old, new)
+            }
+            Layer::Rename { below, exchange } => {
+                let name_below = exchange.name(name);
+                let old_below = exchange.state(old);
+                let new_below = exchange.state(new);
                 below.gives(round, atom, choice, name_below, old_below, new_below)
             }
-            Tree::Hide { below, .. } => below.gives(round, atom, choice, name, old, new),
+            Layer::Hide { below, .. } => below.gives(round, atom, choice, name, old, new),
         }
     }
 }

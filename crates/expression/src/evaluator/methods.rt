@@ -1,12 +1,20 @@
 // How an evaluator reads what stands at a place.
-ghost use Rattle.std.specs.Prelude.{◌≡◌, ◌≤◌};
-ghost use Rattle.expression.specs.Evaluation.{number_here, numbers_here, truth_here, truths_here, byte_worth, name_worth, evaluated_number, evaluated_truth};
+ghost use Rattle.std.specs.Prelude.{◌≡◌, length, MatchOption};
+ghost use Rattle.expression.specs.Evaluation.{Inner, number_here, numbers_here, truth_here, truths_here, byte_worth, name_worth, ended, all_number, all_truth};
 
 use super::Evaluator;
-use crate::operators::{LEVELS, NumberOperator, TruthOperator, byte_at};
+use crate::operators::{NumberOperator, TruthOperator, byte_at};
 use model::{State, value_of};
 
 impl Evaluator<'_> {
+    // The same one level further in; none where no level is left.
+    fn inner(mut self) -> Option<Self>
+        ensures { MatchOption result (self.entry.levels ≡ 0) (Inner self.entry) }
+    {
+        self.levels = self.levels.checked_sub(1)?;
+        Some(self)
+    }
+
     // A constant, and the place after it.
     fn constant(&self, place: usize) -> Option<(i16, usize)>
         ensures { result ≡ byte_worth self.now.bytes.now place }
@@ -23,15 +31,12 @@ impl Evaluator<'_> {
         Some((i16::from(value_of(*state, name)), place + 1))
     }
 
-    // What the number is worth that begins here and nests at most so many levels deep, and the place after it.
+    // What the number is worth that begins here and nests no deeper than there are levels left, and the place after it.
     #[cycle(number)]
-    fn number(&self, levels: u8, place: usize) -> Option<(i16, usize)>
-        requires { levels ≤ 8 }
-        ensures { result ≡ number_here self.now levels place }
+    fn number(&self, place: usize) -> Option<(i16, usize)>
+        ensures { result ≡ number_here self.now place }
     {
-        if levels == 0 {
-            return None;
-        }
+        let inner = self.inner()?;
         let operator = NumberOperator::at(self.bytes, place)?;
         let first = place + 1;
         match operator {
@@ -39,11 +44,11 @@ impl Evaluator<'_> {
             NumberOperator::OldValue => self.value(self.old, first),
             NumberOperator::NewValue => self.value(self.new, first),
             NumberOperator::Sum => {
-                let ((a, b), end) = self.numbers(levels - 1, first)?;
+                let ((a, b), end) = inner.numbers(first)?;
                 Some((a + b, end))
             }
             NumberOperator::Difference => {
-                let ((a, b), end) = self.numbers(levels - 1, first)?;
+                let ((a, b), end) = inner.numbers(first)?;
                 Some((a - b, end))
             }
         }
@@ -51,45 +56,41 @@ impl Evaluator<'_> {
 
     // Two numbers, one after the other, and the place after both.
     #[cycle(number)]
-    fn numbers(&self, levels: u8, place: usize) -> Option<((i16, i16), usize)>
-        requires { levels ≤ 8 }
-        ensures { result ≡ numbers_here self.now levels place }
+    fn numbers(&self, place: usize) -> Option<((i16, i16), usize)>
+        ensures { result ≡ numbers_here self.now place }
     {
-        let (a, second) = self.number(levels, place)?;
-        let (b, end) = self.number(levels, second)?;
+        let (a, second) = self.number(place)?;
+        let (b, end) = self.number(second)?;
         Some(((a, b), end))
     }
 
-    // Whether the truth holds that begins here and nests at most so many levels deep, and the place after it.
+    // Whether the truth holds that begins here and nests no deeper than there are levels left, and the place after it.
     #[cycle(truth)]
-    fn truth(&self, levels: u8, place: usize) -> Option<(bool, usize)>
-        requires { levels ≤ 8 }
-        ensures { result ≡ truth_here self.now levels place }
+    fn truth(&self, place: usize) -> Option<(bool, usize)>
+        ensures { result ≡ truth_here self.now place }
     {
-        if levels == 0 {
-            return None;
-        }
+        let inner = self.inner()?;
         let operator = TruthOperator::at(self.bytes, place)?;
         let first = place + 1;
         match operator {
             TruthOperator::Equal => {
-                let ((a, b), end) = self.numbers(levels - 1, first)?;
+                let ((a, b), end) = inner.numbers(first)?;
                 Some((a == b, end))
             }
             TruthOperator::Less => {
-                let ((a, b), end) = self.numbers(levels - 1, first)?;
+                let ((a, b), end) = inner.numbers(first)?;
                 Some((a < b, end))
             }
             TruthOperator::Not => {
-                let (p, end) = self.truth(levels - 1, first)?;
+                let (p, end) = inner.truth(first)?;
                 Some((!p, end))
             }
             TruthOperator::And => {
-                let ((p, q), end) = self.truths(levels - 1, first)?;
+                let ((p, q), end) = inner.truths(first)?;
                 Some((p & q, end))
             }
             TruthOperator::Or => {
-                let ((p, q), end) = self.truths(levels - 1, first)?;
+                let ((p, q), end) = inner.truths(first)?;
                 Some((p | q, end))
             }
             TruthOperator::True => Some((true, first)),
@@ -99,32 +100,33 @@ impl Evaluator<'_> {
     // Two truths, one after the other, and the place after both. With the reading of one as a parameter this and `numbers`
     // would be one function, in a cycle with both its callers.
     #[cycle(truth)]
-    fn truths(&self, levels: u8, place: usize) -> Option<((bool, bool), usize)>
-        requires { levels ≤ 8 }
-        ensures { result ≡ truths_here self.now levels place }
+    fn truths(&self, place: usize) -> Option<((bool, bool), usize)>
+        ensures { result ≡ truths_here self.now place }
     {
-        let (p, second) = self.truth(levels, place)?;
-        let (q, end) = self.truth(levels, second)?;
+        let (p, second) = self.truth(place)?;
+        let (q, end) = self.truth(second)?;
         Some(((p, q), end))
+    }
+
+    // What was read, if it ends where the bytes do.
+    fn to_the_end<T: Copy>(&self, read: Option<(T, usize)>) -> Option<T>
+        ensures { result ≡ ended (length self.now.bytes.now) read }
+    {
+        let (worth, end) = read?;
+        (end == self.bytes.len()).then_some(worth)
     }
 
     // What the bytes are worth as a number, or 0.
     pub fn whole_number(&self) -> i16
-        ensures { result ≡ evaluated_number self.now.bytes.now self.now.old.now self.now.new.now }
+        ensures { result ≡ all_number self.now }
     {
-        match self.number(LEVELS, 0) {
-            Some((worth, end)) if end == self.bytes.len() => worth,
-            _ => 0,
-        }
+        self.to_the_end(self.number(0)).unwrap_or(0)
     }
 
     // Whether the bytes hold as a truth, or false.
     pub fn whole_truth(&self) -> bool
-        ensures { result ≡ evaluated_truth self.now.bytes.now self.now.old.now self.now.new.now }
+        ensures { result ≡ all_truth self.now }
     {
-        match self.truth(LEVELS, 0) {
-            Some((holds, end)) if end == self.bytes.len() => holds,
-            _ => false,
-        }
+        self.to_the_end(self.truth(0)).unwrap_or(false)
     }
 }

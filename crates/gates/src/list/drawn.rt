@@ -102,7 +102,7 @@ impl Drawing for GateList {
     }
 
     fn gives(&self, round: Round, atom: u8, choice: u8, name: u8, old: State, _new: State) -> i16 {
-        // a match: what is given depends on the atom and on the name at once
+        // a match: with a filter the part would be asked for twice over, in two closures
         match self.part(atom) {
             Some(part) if part.controls().has(name) => i16::from(part.gives(round, choice, old)),
             _ => 0,

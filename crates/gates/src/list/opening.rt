@@ -44,7 +44,7 @@ fn own_shared(records: &[[u8; 5]], index: usize) -> bool
         .any(|(other, record)| shares(record, own, other != index))
 }
 
-// Does an earlier record have the record's out, or is it a latch whose own is not its own?
+// Does an earlier record have the record's out, or is it a latch whose own name some other field has?
 fn clashes(records: &[[u8; 5]], index: usize, gate: Gate) -> bool
     requires { index < length records.now }
     ensures { IsTrue result ↔ Clashes records.now index gate }

@@ -3,6 +3,7 @@ ghost use Rattle.model.specs.Sets.{has, is_name};
 ghost use Rattle.model.specs.Tests.{Answers};
 
 use super::Names;
+use std::array::from_fn;
 
 impl Names {
     pub fn none() -> Names
@@ -22,18 +23,19 @@ impl Names {
         Names { marks }
     }
 
-    // The names at which the test passes. A loop, as those of `below`.
+    // The names at which the test passes.
     pub fn gather<F: Fn(u8) -> bool>(test: F) -> Names
         requires { (k : ℕ) → k < 32 → F.pre test k }
         ensures { (p : ℕ → Bool) → Answers (F.post test) p 32 → (n : ℕ) → has result n ≡ (nat_lt n 32 && p n) }
     {
-        let mut names = Names::none();
-        for name in 0..32 {
-            if test(name) {
-                names = names.with(name);
-            }
+        Names {
+            marks: from_fn(
+                |name|
+                    requires small { name < 32 }
+                    requires callable { (k : ℕ) → k < 32 → F.pre test k }
+                { test(name as u8) },
+            ),
         }
-        names
     }
 
     pub fn has(&self, name: u8) -> bool

@@ -9,11 +9,16 @@ use super::Things;
 use crate::made::Made;
 use crate::sealed::Sealed;
 use any_drawing::AnyDrawing;
-use commands::{Asked, Command, FileBytes, Mistake, state_of};
+use commands::{ByteSource, Command, FileBytes, Mistake, state_of};
+use model::{Question, State};
 use unit::Unit;
-use wording::{Question, verdict_text};
+use wording::verdict_text;
 
-fn question_of<F: FileBytes>(files: &F, asked: Asked) -> Result<Question, Mistake> {
+// The question at the states that its sources hold.
+fn question_of<F: FileBytes>(
+    files: &F,
+    asked: Question<ByteSource>,
+) -> Result<Question<State>, Mistake> {
     Ok(Question {
         round: asked.round,
         atom: asked.atom,

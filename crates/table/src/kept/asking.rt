@@ -57,8 +57,8 @@ impl Table {
         }
     }
 
-    // The written form of the choice's guard, empty if there is no such choice. A match here and below: an empty slice as the
-    // default of `map_or` needs its type spelt out, and is no shorter.
+    // The written form of the choice's guard, empty if there is no such choice. A match here and below: what
+    // is known of the place would have to be told to a closure anew.
     pub fn guard(&self, round: Round, atom: u8, choice: u8) -> &[u8]
         ensures { result.now ≡ guard_form (choice_of self.now round atom choice) }
     {

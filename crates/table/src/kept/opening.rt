@@ -1,12 +1,20 @@
 // Opening a table.
 ghost use Rattle.language.specs.Tables.{table_opened};
 ghost use Rattle.std.specs.Prelude.{◌≡◌, ◌≤◌, length};
+ghost use Rattle.table.specs.Contents.{Copied};
 ghost use Rattle.table.specs.Kept.{contents};
 ghost use Rattle.table.specs.Promises.{OpensAsWritten};
 
 use super::Table;
 use layout::read;
 use model::Row;
+
+// A copy of the bytes, or how many they are where there is no room for them.
+fn copied(bytes: &[u8]) -> Result<Row<u8, 4096>, usize>
+    ensures { Copied bytes.now result }
+{
+    Row::from_slice(bytes, 0).map_err(|_| bytes.len())
+}
 
 impl Table {
     // Opens any bytes. A fault still makes a table, which tells it and has no variables and no atoms.
@@ -16,7 +24,7 @@ impl Table {
         ensures promised { OpensAsWritten bytes.now result }
     {
         Table {
-            bytes: Row::from_slice(bytes, 0),
+            bytes: copied(bytes),
             found: read(bytes),
         }
     }

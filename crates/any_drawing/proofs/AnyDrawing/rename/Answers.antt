@@ -1,10 +1,14 @@
-use Rattle.std.proofs.Common.{sym, ◌∙◌, subst}
+use Rattle.std.proofs.Common.{sym, ap, ◌∙◌, subst}
+use Rattle.composition.specs.Meanings.{renamed}
 use Rattle.reactive.proofs.Piles.{renames_part}
 use Rattle.any_drawing.specs.Meaning.{any_meaning}
-use Rattle.any_drawing.specs.Trees.{tree_outline}
+use Rattle.any_drawing.specs.Trees.{tree_meaning, tree_outline}
 use Rattle.any_drawing.specs.Whole.{WholeRename, Whole}
 use Rattle.any_drawing.proofs.Wholes.{whole_rename}
 use Rattle.any_drawing.proofs.AnyDrawing.rename.Goals as goal
+
+pub returns-clause-means : goal.returns-clause-means
+returns-clause-means c = ap tree_meaning c.of.ensures ∙ ap (λ t. renamed (tree_meaning t) c.args.old c.args.new) (c.in_ok-below.ensures.ok ∙ c.into_tree.ensures.same)
 
 pub returns-clause-part : goal.returns-clause-part
 returns-clause-part c = renames_part (any_meaning c.args.below) c.args.old c.args.new

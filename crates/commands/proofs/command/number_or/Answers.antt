@@ -7,11 +7,11 @@ use Rattle.commands.proofs.command.number_or.Goals as goal
 own : IsNumeralModel (λ ds. all_ascii_digits ds ≡ true) (digits_value 10)
 own = numerals_by_value _ tells_all_ascii_digits
 
-pub returns-in-43 : goal.returns-in-43
-returns-in-43 c =
-    let plus : get_or c.as_bytes.result.now 0 0 ≡ 43 = search rules in
+pub returns-then-starts_with : goal.returns-then-starts_with
+returns-then-starts_with c =
+    let plus : get_or c.args.word.now 0 0 ≡ 43 = search rules in
     record {
-      reads = λ h. not_in_digits own c.args.word.now 43 h.0 (search rules) 0 h.1 (rw c.as_bytes.ensures.value at plus);
+      reads = λ h. not_in_digits own c.args.word.now 43 h.0 (search rules) 0 h.1 plus;
       blames = refl;
     }
 

@@ -1,15 +1,21 @@
-use Rattle.std.proofs.Common.{[], ◌∷◌, ◌++◌, vec_items, sym, ap, ◌∙◌, subst, append_assoc, append-nil}
-use Rattle.commands.specs.Words.{First, Words}
+use Rattle.std.proofs.Common.{List, ℕ, [], ◌∷◌, vec_items, sym, subst, Bor, Result, Ok, Err, Vec, IfOk}
+use Rattle.std.proofs.lemmas.Iterator.{IsCollectResult}
+use Rattle.std.specs.Char.{is_not_whitespace}
+use Rattle.std.specs.Iterator.{Yields}
+use Rattle.std.specs.Str.{NoCharPasses}
+use Rattle.std.specs.Str.Iter.{split_whitespace_rest, split_whitespace_steps}
+use Rattle.std.specs.declared.str.SplitWhitespace.{SplitWhitespace}
+use Rattle.commands.specs.Words.{Words}
 use Rattle.commands.proofs.command.words_of.Goals as goal
 
-pub loop-word-preserved : goal.loop-word-preserved
-loop-word-preserved c = λ ws h.
-    let cut = c.in-Some.ensures.steps in
-    let word = c.in-Some.word in
-    let old = vec_items c.loop-word.words in
-    let first : First _ word.now _ = record { gap = cut.0; cut = cut.1; some = cut.2; blank = cut.3; solid = cut.4; ends = cut.5 } in
-    let pushed = c.in_ok-push.ensures.items in
-    subst (Words c.args.line.now) (sym (ap (λ l. l ++ ws) pushed ∙ append_assoc old (word ∷ []) ws)) (c.loop-word.invariant (word ∷ ws) (_, first, h))
+given : (ws : List (Bor (List ℕ))) (s t : SplitWhitespace) → Yields split_whitespace_steps s ws t → NoCharPasses is_not_whitespace (split_whitespace_rest t) → Words (split_whitespace_rest s) ws
+given [] s t is blank = subst (λ u. NoCharPasses is_not_whitespace (split_whitespace_rest u)) (sym is) blank
+given (w ∷ ws) s t (next, cut, more) blank =
+    (_, record { gap = cut.0; cut = cut.1; some = cut.2; blank = cut.3; solid = cut.4; ends = cut.5 }, given ws next t more blank)
+
+collected : {Z E : Type 0} (s : SplitWhitespace) (r : Result (Vec (Bor (List ℕ)) Z) E) → IsCollectResult split_whitespace_steps s r → IfOk r (λ v. Words (split_whitespace_rest s) (vec_items v))
+collected s (Ok v) (ws, ends, is) = subst (Words (split_whitespace_rest s)) (sym is.0) (given ws s ends.0 ends.1 (ends.2 tt).1.1)
+collected s (Err e) none = tt
 
 pub returns : goal.returns
-returns c = subst (Words c.args.line.now) (append-nil (vec_items c.loop-word.words)) (c.loop-word.invariant [] c.in-None.ensures.steps.1)
+returns c = rw (← c.split_whitespace.ensures.rest) (collected _ _ c.collect.ensures.ran)

@@ -1,14 +1,12 @@
-use Rattle.std.proofs.Common.{sym, ◌∙◌, arith}
-use Rattle.model.proofs.Bounded.{lowest_none, lowest_more, lowest_at}
+use Rattle.std.proofs.Common.{true, false, rules, tests}
+use Rattle.std.proofs.lemmas.Iterator.{first_from_Range, serves_from_Range}
+use Rattle.model.proofs.Lowest.{lowest_from}
 use Rattle.model.proofs.below.lowest_below.Goals as goal
 
-pub loop-number-init : goal.loop-number-init
-loop-number-init g c = λ p h. lowest_none p
+pub find-requires-clause-callable : goal.find-requires-clause-callable
+find-requires-clause-callable g c = serves_from_Range (λ x q k. search (rules, tests)) (λ x low high. search (rules, c.requires))
 
-pub returns-then-test : goal.returns-then-test
-returns-then-test g c =
-    λ p h. sym (lowest_at p c.args.bound c.loop-number.number (omega arith) (c.loop-number.invariant p h) (sym (h _ _ (omega arith) c.test.ensures) ∙ c.if-test.true))
-
-pub loop-number-preserved : goal.loop-number-preserved
-loop-number-preserved g c =
-    λ p h. lowest_more p c.loop-number.number (c.loop-number.invariant p h) (sym (h _ _ (omega arith) c.test.ensures) ∙ c.if-test.false)
+pub returns : goal.returns
+returns g c =
+    let answered = goal.F-post g c.args.test in
+    λ p h. lowest_from answered p c.args.bound h _ (first_from_Range _ _ _ _ (λ k. answered k true) (λ k. answered k false) c.find.ensures.ran (λ x q k. search (rules, tests)) (λ x q k. (search rules, search (rules, tests))))

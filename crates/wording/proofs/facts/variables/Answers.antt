@@ -1,20 +1,11 @@
-use Rattle.std.proofs.Common.{vec_items, sym, ap, ◌∙◌}
-use Rattle.wording.specs.Told.{variable_at}
-use Rattle.wording.proofs.Below.{below_none, below_push, below_pass, variable_there, variable_absent}
+use Rattle.std.proofs.Common.{refl, rules, tests}
+use Rattle.std.proofs.lemmas.Iterator.{items_from_collect, YieldsList-from_range}
+use Rattle.std.proofs.lemmas.Iterator.Consumers.{YieldsList-from_filter_map}
+use Rattle.wording.proofs.Below.{variable_found, variables_below}
 use Rattle.wording.proofs.facts.variables.Goals as goal
-use Rattle.wording.proofs.facts.variables.Goals.{in-Some+in_ok-push, in_default}
 
-pub loop-name-init : goal.loop-name-init
-loop-name-init g c = c.new-variables.ensures.items ∙ sym (below_none (variable_at (g.D.Outline.outline c.args.drawing.now)))
-
-pub loop-name-preserved : goal.loop-name-preserved
-loop-name-preserved g c =
+pub returns : goal.returns
+returns g c =
     let o = g.D.Outline.outline c.args.drawing.now in
-    let n = c.loop-name.name in
-    elim c.match-kind.branch [
-      | in-Some+in_ok-push w ↦
-          below_push (variable_at o) n _ _ _ c.loop-name.invariant (ap vec_items w.variables-is ∙ w.in_ok-push.ensures.items)
-          (variable_there o n _ _ (sym c.kind.ensures ∙ w.in-Some.is) w.top-top.ensures)
-      | in_default w ↦
-          below_pass (variable_at o) n _ (ap vec_items w.variables-is ∙ c.loop-name.invariant) (variable_absent o n (sym c.kind.ensures ∙ w.in_default.is))
-    ]
+    rw (← variables_below o 32) (items_from_collect c.collect.result c.collect.ensures.ran
+    (YieldsList-from_filter_map _ (variable_found o) (YieldsList-from_range 0 32 32 c.filter_map.ensures.source refl) c.filter_map.ensures.closure (λ x r q k. search (rules, tests))))

@@ -1,19 +1,22 @@
-use Rattle.std.proofs.Common.{◌+◌, sym, ap, ◌∙◌, arith}
+use Rattle.std.proofs.Common.{◌∙◌, filter, refl, arith, rules, tests}
+use Rattle.std.proofs.lemmas.Iterator.{YieldsList-from_range, YieldsList-from_map}
+use Rattle.std.proofs.lemmas.Iterator.Consumers.{YieldsList-at, YieldsList-from_filter, sum_by_from_yields_List, fits_by_from_yields_list}
+use Rattle.std.specs.List.{range_with_len}
 use Rattle.model.specs.Sets.{has}
-use Rattle.wording.proofs.Below.{mask_none, bit, mask_there, mask_absent}
+use Rattle.wording.proofs.Below.{bit, bits_below}
 use Rattle.wording.proofs.outline.mask.Goals as goal
-use Rattle.wording.proofs.outline.mask.Goals.{then-has, else-has}
 
-pub loop-name-init : goal.loop-name-init
-loop-name-init c = (sym (mask_none (has c.args.names.now)), omega arith)
-
-pub loop-name-preserved : goal.loop-name-preserved
-loop-name-preserved c =
+pub sum-requires-clause-fits : goal.sum-requires-clause-fits
+sum-requires-clause-fits c =
     let p = has c.args.names.now in
-    let n = c.loop-name.name in
-    let m = c.loop-name.mask in
-    let old = c.loop-name.invariant in
-    elim c.if-has.branch [
-      | then-has w ↦ mask_there p n m old.0 old.1 _ (w.mask-is ∙ ap (λ x. m + x) (bit n c.loop-name-test.true)) (sym w.if-has.ensures)
-      | else-has w ↦ mask_absent p n m old.0 old.1 _ w.mask-is (sym w.if-has.ensures)
-    ]
+    let is = bits_below p 32 (omega arith) in
+    fits_by_from_yields_list bit (filter p (range_with_len 0 32)) c.map.result _
+    (YieldsList-from_map _ bit (YieldsList-at c.map.ensures.source (YieldsList-from_filter _ p (YieldsList-from_range 0 32 32 c.filter.ensures.source refl) c.filter.ensures.closure (λ x r q k. search (rules, tests)))) c.map.ensures.closure (λ x r q k. search (rules, tests)))
+    (rw is.0 is.1)
+
+pub returns : goal.returns
+returns c =
+    let p = has c.args.names.now in
+    sum_by_from_yields_List bit (filter p (range_with_len 0 32)) c.map.result _ c.sum.ensures.ran
+    (YieldsList-from_map _ bit (YieldsList-at c.map.ensures.source (YieldsList-from_filter _ p (YieldsList-from_range 0 32 32 c.filter.ensures.source refl) c.filter.ensures.closure (λ x r q k. search (rules, tests)))) c.map.ensures.closure (λ x r q k. search (rules, tests)))
+    ∙ (bits_below p 32 (omega arith)).0

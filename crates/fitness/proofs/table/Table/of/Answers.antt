@@ -1,5 +1,5 @@
 use Rattle.std.proofs.Common.{ap, arith}
-use Rattle.fitness.proofs.Filled.{filled}
+use Rattle.model.proofs.Filled.{filled}
 use Rattle.fitness.proofs.Tables.{told_by_set}
 use Rattle.fitness.proofs.table.Table.of.Goals as goal
 

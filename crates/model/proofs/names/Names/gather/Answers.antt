@@ -1,21 +1,10 @@
-use Rattle.std.proofs.Common.{◌&&◌, ltb, sym, ap, ◌∙◌, arith}
-use Rattle.std.proofs.lemmas.Bool.{le-ltb}
-use Rattle.model.specs.Sets.{has}
-use Rattle.model.proofs.Gathered.{gathered_with, gathered_without}
+use Rattle.std.proofs.Common.{false, rules, tests, arith}
+use Rattle.model.proofs.Filled.{filled}
+use Rattle.model.proofs.Gathered.{gathered}
 use Rattle.model.proofs.names.Names.gather.Goals as goal
-use Rattle.model.proofs.names.Names.gather.Goals.{then-test, else-test}
-
-pub loop-name-init : goal.loop-name-init
-loop-name-init g c = λ p h n. c.none-names.ensures n ∙ sym (ap (λ t. t && p n) (le-ltb n 0 (omega arith)))
-
-pub loop-name-preserved : goal.loop-name-preserved
-loop-name-preserved g c =
-    λ p h n.
-    let here = sym (h _ _ (omega arith) c.test.ensures) in
-    elim c.if-test.branch [
-      | then-test w ↦ ap (λ names. has names n) w.names-is ∙ w.with-names.ensures n ∙ gathered_with p c.loop-name.name n (has c.loop-name.names n) (omega arith) (here ∙ w.if-test.true) (c.loop-name.invariant p h n)
-      | else-test w ↦ ap (λ names. has names n) w.names-is ∙ gathered_without p c.loop-name.name n (has c.loop-name.names n) (here ∙ w.if-test.false) (c.loop-name.invariant p h n)
-    ]
 
 pub returns : goal.returns
-returns g c = λ p h n. c.loop-name.invariant p h n ∙ ap (λ m. ltb n m && p n) (omega arith)
+returns g c =
+    let marks = c.from_fn.result in
+    λ p h. gathered (goal.F-post g c.args.test) p h marks c.from_fn.ensures.items.long
+    (λ n l. let call = (filled _ (λ f k y q e. search rules) _ marks 0 32 c.from_fn.ensures.items.each n false (omega arith) l).1 in search (rules, tests))

@@ -1,8 +1,8 @@
 use Rattle.std.proofs.Common.{◌+◌, ◌*◌}
 use Rattle.notation.proofs.infix.Written.+numbers.Given as goal
 
-abbrev pub decreases-add_number_of : goal.decreases-add_number_of
-decreases-add_number_of l = 2 * l.levels
+abbrev pub decreases-fmt_number : goal.decreases-fmt_number
+decreases-fmt_number g l = 2 * l.levels
 
-abbrev pub decreases-add_two : goal.decreases-add_two
-decreases-add_two l = 2 * l.levels + 1
+abbrev pub decreases-fmt_two : goal.decreases-fmt_two
+decreases-fmt_two g l = 2 * l.levels + 1

@@ -1,7 +1,7 @@
 use Rattle.std.proofs.Common.{rules}
 use Rattle.piles.proofs.rename.RenameDrawing.gives.Goals as goal
 
-pub returns-in-None : goal.returns-in-None
-returns-in-None g c =
-    let told = rw (c.exchanged-name.ensures, c.exchanged_state-old.ensures, c.exchanged_state-new.ensures) at c.gives.ensures in
+pub returns : goal.returns
+returns g c =
+    let told = rw (c.name-name.ensures, c.state-old.ensures, c.state-new.ensures) at c.gives.ensures in
     search rules

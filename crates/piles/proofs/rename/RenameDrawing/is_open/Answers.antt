@@ -1,7 +1,7 @@
 use Rattle.std.proofs.Common.{rules}
 use Rattle.piles.proofs.rename.RenameDrawing.is_open.Goals as goal
 
-pub returns-in-None : goal.returns-in-None
-returns-in-None g c =
-    let told = rw (c.exchanged_state-old.ensures, c.exchanged_state-new.ensures) at c.is_open.ensures in
+pub returns : goal.returns
+returns g c =
+    let told = rw (c.state-old.ensures, c.state-new.ensures) at c.is_open.ensures in
     search rules

@@ -1,7 +1,0 @@
-use Rattle.std.proofs.Common.{◌≡◌, ◌^◌, ◌<◌}
-use Rattle.model.specs.Sets.{has}
-use Rattle.wording.specs.Told.{mask_below}
-use Rattle.wording.proofs.outline.mask.Given as goal
-
-abbrev pub invariant-loop-name : goal.invariant-loop-name
-invariant-loop-name l = (l.mask ≡ mask_below (has l.names) l.name) × (l.mask < 2 ^ l.name)
