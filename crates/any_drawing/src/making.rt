@@ -6,7 +6,7 @@ ghost use Rattle.composition.specs.Meanings.{renamed, hidden, joined};
 ghost use Rattle.reactive.specs.Piles.{JoinsParts, RenamesPart, HidesPart};
 ghost use Rattle.std.specs.Prelude.{◌≡◌, IfOk, OnOk};
 
-use crate::{AnyDrawing, Tree};
+use crate::{AnyDrawing, Node};
 use drawing::Outline;
 use gates::GateList;
 use piles::{hide_fault, join_fault, rename_fault};
@@ -19,7 +19,9 @@ impl AnyDrawing {
         ensures means { IfOk result (λ d. MeansTable bytes.now (any_meaning d)) }
     {
         let table = Box::new(heap, Table::open(bytes))?;
-        Ok(AnyDrawing::of(Tree::Table(table)))
+        Ok(AnyDrawing {
+            node: Node::Table(table),
+        })
     }
 
     // The gate list that the bytes describe.
@@ -27,7 +29,9 @@ impl AnyDrawing {
         ensures means { IfOk result (λ d. MeansGates bytes.now (any_meaning d)) }
     {
         let list = Box::new(heap, GateList::open(bytes))?;
-        Ok(AnyDrawing::of(Tree::Gates(list)))
+        Ok(AnyDrawing {
+            node: Node::Gates(list),
+        })
     }
 
     // The two side by side. Atoms of the left part come first.
@@ -37,15 +41,15 @@ impl AnyDrawing {
     {
         let fault = join_fault(&left, &right);
         let left_atoms = left.atoms();
-        let left = Box::new(heap, left.into_tree())?;
-        let right = Box::new(heap, right.into_tree())?;
-        let tree = Tree::Join {
+        let left = Box::new(heap, left)?;
+        let right = Box::new(heap, right)?;
+        let node = Node::Join {
             left,
             right,
             fault,
             left_atoms,
         };
-        Ok(AnyDrawing::of(tree))
+        Ok(AnyDrawing { node })
     }
 
     // The drawing with a new name for one of its variables.
@@ -59,14 +63,14 @@ impl AnyDrawing {
         ensures part { OnOk result (RenamesPart (any_meaning below) old new) }
     {
         let fault = rename_fault(&below, old, new);
-        let below = Box::new(heap, below.into_tree())?;
-        let tree = Tree::Rename {
+        let below = Box::new(heap, below)?;
+        let node = Node::Rename {
             below,
             old,
             new,
             fault,
         };
-        Ok(AnyDrawing::of(tree))
+        Ok(AnyDrawing { node })
     }
 
     // The drawing with one of its interface names made private.
@@ -75,8 +79,8 @@ impl AnyDrawing {
         ensures part { OnOk result (HidesPart (any_meaning below) name) }
     {
         let fault = hide_fault(&below, name);
-        let below = Box::new(heap, below.into_tree())?;
-        let tree = Tree::Hide { below, name, fault };
-        Ok(AnyDrawing::of(tree))
+        let below = Box::new(heap, below)?;
+        let node = Node::Hide { below, name, fault };
+        Ok(AnyDrawing { node })
     }
 }

@@ -1,6 +1,7 @@
-// Whether two drawings answer every question alike: at all names, atoms and choices, and a few more that are not there.
+// Whether two drawings answer every question alike: at all names, atoms and choices, and a few more that are not there. The two are
+// handed on as the operands of a comparison, which a struct of both would only hide.
 use drawing::{Drawing, Outline};
-use model::{Names, Round, State};
+use model::{Round, State};
 
 pub fn alike<A: Drawing, B: Drawing>(a: &A, b: &B) -> bool {
     a.fault() == b.fault()
@@ -22,14 +23,10 @@ fn same_atoms<A: Drawing, B: Drawing>(a: &A, b: &B) -> bool {
     })
 }
 
-pub fn same_set(a: Names, b: Names) -> bool {
-    (0..=255u8).all(|name| a.has(name) == b.has(name))
-}
-
 fn same_sets<A: Outline, B: Outline>(a: &A, b: &B, atom: u8) -> bool {
-    same_set(a.controls(atom), b.controls(atom))
-        && same_set(a.reads(atom), b.reads(atom))
-        && same_set(a.awaits(atom), b.awaits(atom))
+    a.controls(atom) == b.controls(atom)
+        && a.reads(atom) == b.reads(atom)
+        && a.awaits(atom) == b.awaits(atom)
 }
 
 fn same_choices<A: Drawing, B: Drawing>(a: &A, b: &B, round: Round, atom: u8) -> bool {

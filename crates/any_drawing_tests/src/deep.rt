@@ -7,42 +7,19 @@ use model::Fault;
 use std::alloc::{AllocError, Global};
 use std::test::Fail;
 
-// So many layers, each put on the pile below it.
-fn piled<F: Fn(u16, AnyDrawing) -> Result<AnyDrawing, AllocError>>(
-    bottom: AnyDrawing,
-    layers: u16,
-    layer: F,
-) -> Result<AnyDrawing, AllocError>
-    requires { F.IsAlwaysCallable layer }
-{
-    let mut pile = bottom;
-    for k in 0..layers {
-        pile = layer(k, pile)?;
-    }
-    Ok(pile)
-}
-
 // So many joins, each with an empty drawing on its right.
 fn left_deep(heap: Global, bottom: AnyDrawing, joins: u16) -> Result<AnyDrawing, AllocError> {
-    piled(
-        bottom,
-        joins,
-        |_, pile| AnyDrawing::join(heap, pile, empty(heap)?),
-    )
+    (0..joins).try_fold(bottom, |pile, _| AnyDrawing::join(heap, pile, empty(heap)?))
 }
 
 // So many joins, each with an empty drawing on its left.
 fn right_deep(heap: Global, bottom: AnyDrawing, joins: u16) -> Result<AnyDrawing, AllocError> {
-    piled(
-        bottom,
-        joins,
-        |_, pile| AnyDrawing::join(heap, empty(heap)?, pile),
-    )
+    (0..joins).try_fold(bottom, |pile, _| AnyDrawing::join(heap, empty(heap)?, pile))
 }
 
 // So many renames, of name 1 to name 2 and back again in turn.
 fn renamed(heap: Global, bottom: AnyDrawing, renames: u16) -> Result<AnyDrawing, AllocError> {
-    piled(bottom, renames, |k, pile| {
+    (0..renames).try_fold(bottom, |pile, k| {
         if k % 2 == 0 {
             AnyDrawing::rename(heap, pile, 1, 2)
         } else {
@@ -54,9 +31,8 @@ fn renamed(heap: Global, bottom: AnyDrawing, renames: u16) -> Result<AnyDrawing,
 // Does the fault of the faulty list lie in this layer, and are there so many layers?
 fn is_wrong_at(pile: &AnyDrawing, layer: u8, layers: u8) -> bool {
     let fault = Fault {
-        number: 18,
         layer,
-        place: 5,
+        ..Fault::own(18, 5)
     };
     pile.fault() == Some(fault) && pile.layers() == layers && pile.atoms() == 0
 }

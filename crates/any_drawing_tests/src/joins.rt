@@ -1,7 +1,7 @@
 // Many parts joined in different ways.
 ghost use Rattle.std.specs.Prelude.{◌+◌, ◌≤◌, IfOk};
 
-use crate::alike::{alike, same_set};
+use crate::alike::alike;
 use crate::building::*;
 use any_drawing::AnyDrawing;
 use drawing::{Drawing, Outline};
@@ -13,12 +13,7 @@ use std::test::Fail;
 fn two_outs_of_one_name(rt: HostRuntime) -> Result<(), Fail> {
     let heap = rt.alloc();
     let pile = AnyDrawing::join(heap, not(heap, 0, 1)?, not(heap, 2, 1)?)?;
-    let fault = Fault {
-        number: 9,
-        layer: 0,
-        place: 1,
-    };
-    assert!(rt; pile.fault() == Some(fault));
+    assert!(rt; pile.fault() == Some(Fault::own(9, 1)));
     assert!(rt; pile.atoms() == 0 && pile.kind(1).is_none());
     Ok(())
 }
@@ -48,11 +43,10 @@ fn passage(heap: Global, k: u8) -> Result<AnyDrawing, AllocError> {
 
 // Fourteen atoms in a ring, each of which awaits the one before and the barrier, joined from fourteen parts.
 fn junction(heap: Global) -> Result<AnyDrawing, AllocError> {
-    let mut pile = passage(heap, 0)?;
-    for k in 1..14u8 {
-        pile = AnyDrawing::join(heap, pile, passage(heap, k)?)?;
-    }
-    Ok(pile)
+    (1..14u8).try_fold(
+        passage(heap, 0)?,
+        |pile, k| AnyDrawing::join(heap, pile, passage(heap, k)?),
+    )
 }
 
 fn both(one: u8, other: u8) -> Names {
@@ -66,8 +60,8 @@ fn is_passage(pile: &AnyDrawing, k: u8, next: u8) -> bool {
         new[k as usize] = 0;
     }
     pile.kind(k) == Some(Kind::Interface)
-        && same_set(pile.awaits(k), both(k, BARRIER))
-        && same_set(pile.controls(k), both(next, next))
+        && pile.awaits(k) == both(k, BARRIER)
+        && pile.controls(k) == both(next, next)
         && pile.choices(Round::Update, k) == 3
         && pile.is_open(Round::Update, k, 0, [0; 32], new)
         && !pile.is_open(Round::Update, k, 1, [0; 32], new)
@@ -90,27 +84,23 @@ fn the_crowded_junction(rt: HostRuntime) -> Result<(), Fail> {
 
 const WIRE: u8 = 31;
 
-// A small module on the towpath: it negates the wire under a name of its own, two names from the next.
-fn lamp(heap: Global, k: u8) -> Result<AnyDrawing, AllocError>
-    requires { k ≤ 100 }
-{
-    not(heap, WIRE, 2 * k)
+// A small module on the towpath: it negates the wire under a name of its own, two names from the next. There are sixteen.
+fn lamp(heap: Global, k: u8) -> Result<AnyDrawing, AllocError> {
+    not(heap, WIRE, 2 * (k % 16))
 }
 
 fn lamps_from_the_left(heap: Global) -> Result<AnyDrawing, AllocError> {
-    let mut pile = lamp(heap, 0)?;
-    for k in 1..16u8 {
-        pile = AnyDrawing::join(heap, pile, lamp(heap, k)?)?;
-    }
-    Ok(pile)
+    (1..16u8).try_fold(
+        lamp(heap, 0)?,
+        |pile, k| AnyDrawing::join(heap, pile, lamp(heap, k)?),
+    )
 }
 
 fn lamps_from_the_right(heap: Global) -> Result<AnyDrawing, AllocError> {
-    let mut pile = lamp(heap, 15)?;
-    for k in 1..16u8 {
-        pile = AnyDrawing::join(heap, lamp(heap, 15 - k)?, pile)?;
-    }
-    Ok(pile)
+    (0..15u8).rev().try_fold(
+        lamp(heap, 15)?,
+        |pile, k| AnyDrawing::join(heap, lamp(heap, k)?, pile),
+    )
 }
 
 // So many lamps from this one on, each half joined by itself first.

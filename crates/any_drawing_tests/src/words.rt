@@ -1,30 +1,19 @@
 // A pile told in words, by going through its layers.
 use crate::building::*;
-use any_drawing::{AnyDrawing, Tree};
-use std::alloc::AllocError;
+use any_drawing::{AnyDrawing, Node};
+use std::alloc::{AllocError, Global};
 use std::test::Fail;
 
-fn tell(tree: &Tree, text: &mut String) -> Result<(), AllocError> {
-    match tree {
-        Tree::Table(_) => text.push_str("table")?,
-        Tree::Gates(_) => text.push_str("gates")?,
-        Tree::Join { left, right, .. } => {
-            text.push_str("(")?;
-            tell(left, text)?;
-            text.push_str(" + ")?;
-            tell(right, text)?;
-            text.push_str(")")?;
+fn told(heap: Global, pile: &AnyDrawing) -> Result<String, AllocError> {
+    match pile.node() {
+        Node::Table(_) => String::from_str(heap, "table"),
+        Node::Gates(_) => String::from_str(heap, "gates"),
+        Node::Join { left, right, .. } => {
+            format!(in heap; "({} + {})", told(heap, left)?, told(heap, right)?)
         }
-        Tree::Rename { below, .. } => {
-            text.push_str("renamed ")?;
-            tell(below, text)?;
-        }
-        Tree::Hide { below, .. } => {
-            text.push_str("hidden ")?;
-            tell(below, text)?;
-        }
+        Node::Rename { below, .. } => format!(in heap; "renamed {}", told(heap, below)?),
+        Node::Hide { below, .. } => format!(in heap; "hidden {}", told(heap, below)?),
     }
-    Ok(())
 }
 
 #[test]
@@ -37,8 +26,7 @@ fn layers_in_words(rt: HostRuntime) -> Result<(), Fail> {
         2,
     )?;
     let pile = AnyDrawing::join(heap, left, right)?;
-    let mut text = String::new(heap);
-    tell(pile.tree(), &mut text)?;
+    let text = told(heap, &pile)?;
     assert!(rt; text.as_str() == "(renamed gates + hidden (gates + table))");
     Ok(())
 }

@@ -1,7 +1,9 @@
--- Two characters that spell no byte. Assumes nothing.
-use Rattle.std.proofs.Common.{◌≡◌, ℕ, ◌+◌, ◌*◌, ◌<◌, List, [], ◌∷◌, ◌++◌, length, get_or, Some, None, Option, refl, arith, below_more, length-append}
-use Rattle.std.proofs.lemmas.List.{get_or_append_left, get_or-append-add}
-use Rattle.commands.specs.Hex.{digit_worth, spelt, byte_spelt, Spells, Strange}
+-- Two characters that spell a byte, or none. Assumes nothing.
+use Rattle.std.proofs.Common.{◌≡◌, ℕ, zero, suc, ◌+◌, ◌*◌, ◌/◌, ◌<◌, List, [], ◌∷◌, ◌++◌, length, get_or, drop, Some, None, Option, refl, ap, ◌∙◌, sym, arith, not-suc-le-zero, le_of_suc-le-suc, add-zero, below_more}
+use Rattle.std.proofs.Math.Seq.{get_or-append_seam}
+use Rattle.std.proofs.lemmas.List.{get_or-take, get_or-drop, get_or_append_left}
+use Rattle.std.specs.Simd.{first_chunks}
+use Rattle.commands.specs.Hex.{digit_worth, spelt, byte_spelt, Strange}
 
 by_worth : (text : List ℕ) (i j : ℕ) (h l : Option ℕ) → digit_worth (get_or text i 0) ≡ h → digit_worth (get_or text j 0) ≡ l → i < length text → j < length text → spelt h l ≡ None → Strange text
 by_worth text i j None l high low i-in j-in none = (i, i-in, high)
@@ -12,19 +14,20 @@ by_worth text i j (Some h) (Some l) high low i-in j-in none = let z : ◌≡◌ 
 pub strange_pair : (text : List ℕ) (i j : ℕ) → i < length text → j < length text → byte_spelt (get_or text i 0) (get_or text j 0) ≡ None → Strange text
 strange_pair text i j i-in j-in none = by_worth text i j _ _ refl refl i-in j-in none
 
-after : (xs ys : List ℕ) (i n : ℕ) → i ≡ length xs + n → get_or (xs ++ ys) i 0 ≡ get_or ys n 0
-after xs ys i n is = rw is (get_or-append-add xs ys n 0)
+-- character k of pair i stands in its place in the text
+character_at : (n : ℕ) (text : List ℕ) (i k : ℕ) → i < n → k < 2 → get_or (get_or (first_chunks 2 n text) i []) k 0 ≡ get_or text (2 * i + k) 0
+character_at zero text i k h l = absurd (not-suc-le-zero h)
+character_at (suc n) text zero k h l = get_or-take 2 text k 0 l ∙ ap (λ j. get_or text j 0) (omega arith)
+character_at (suc n) text (suc i) k h l =
+    character_at n (drop 2 text) i k (le_of_suc-le-suc h) l ∙ get_or-drop 2 text (2 * i + k) 0 ∙ ap (λ j. get_or text j 0) (omega arith)
 
--- two digits more spell one byte more
-pub spells_more : (text bytes pair : List ℕ) (b : ℕ) → Spells text bytes → length pair ≡ 2 → byte_spelt (get_or pair 0 0) (get_or pair 1 0) ≡ Some b → Spells (text ++ pair) (bytes ++ (b ∷ []))
-spells_more text bytes pair b old two here = record {
-  pairs = omega (arith, old.pairs, length-append {A = ℕ});
-  each = λ k h. below_more (λ j. byte_spelt (get_or (text ++ pair) (2 * j) 0) (get_or (text ++ pair) (2 * j + 1) 0) ≡ Some (get_or (bytes ++ (b ∷ [])) j 0)) (length bytes)
-      (λ j i. rw (get_or_append_left text pair 0 (2 * j) (omega (arith, old.pairs)), get_or_append_left text pair 0 (2 * j + 1) (omega (arith, old.pairs)), get_or_append_left bytes (b ∷ []) 0 j i) (old.each j i))
-      (rw (after text pair (2 * length bytes) 0 (omega (arith, old.pairs)), after text pair (2 * length bytes + 1) 1 (omega (arith, old.pairs)), after bytes (b ∷ []) (length bytes) 0 (omega arith)) here)
-      k (omega (arith, length-append {A = ℕ}));
-}
+-- the byte of a pair is that of the two characters in its place
+pub pair_spelt : (text : List ℕ) (pairs : List (List ℕ)) (i : ℕ) → pairs ≡ first_chunks 2 (length text / 2) text → i < length text / 2 → byte_spelt (get_or text (2 * i) 0) (get_or text (2 * i + 1) 0) ≡ byte_spelt (get_or (get_or pairs i []) 0 0) (get_or (get_or pairs i []) 1 0)
+pair_spelt text pairs i is h = rw (is, character_at _ text i 0 h (omega arith), character_at _ text i 1 h (omega arith), add-zero) refl
 
-pub strange_within : (read pair rest : List ℕ) → Strange pair → Strange (read ++ (pair ++ rest))
-strange_within read pair rest s =
-    (length read + s.0, omega (arith, s.1, length-append {A = ℕ}), rw (get_or-append-add read (pair ++ rest) s.0 0, get_or_append_left pair rest 0 s.0 s.1) s.2)
+-- two characters more spell one byte more
+pub spells_more : (text bytes : List ℕ) (i b : ℕ) → length bytes ≡ i → ((k : ℕ) → k < i → byte_spelt (get_or text (2 * k) 0) (get_or text (2 * k + 1) 0) ≡ Some (get_or bytes k 0)) → byte_spelt (get_or text (2 * i) 0) (get_or text (2 * i + 1) 0) ≡ Some b → (k : ℕ) → k < i + 1 → byte_spelt (get_or text (2 * k) 0) (get_or text (2 * k + 1) 0) ≡ Some (get_or (bytes ++ (b ∷ [])) k 0)
+spells_more text bytes i b count before here =
+    below_more (λ k. byte_spelt (get_or text (2 * k) 0) (get_or text (2 * k + 1) 0) ≡ Some (get_or (bytes ++ (b ∷ [])) k 0)) i
+    (λ k h. rw (get_or_append_left bytes (b ∷ []) 0 k (omega arith)) (before k h))
+    (here ∙ ap Some (sym (ap (λ n. get_or (bytes ++ (b ∷ [])) n 0) (sym count) ∙ get_or-append_seam bytes b [] 0)))

@@ -1,4 +1,5 @@
-// Byte strings as hex digits, two to a byte.
+// Byte strings as hex digits, two to a byte. Not by the library's `hex`: its errors tell places and characters, which would be turned
+// into these two mistakes, and its contract into what is promised here.
 ghost use Rattle.commands.specs.Hex.{digit_worth, byte_spelt, Spells};
 ghost use Rattle.commands.specs.Refusals.{HexRefused};
 ghost use Rattle.commands.specs.declared.mistake.Mistake.TheVariants.{BadHex};
@@ -28,13 +29,13 @@ fn byte(high: u8, low: u8) -> Result<u8, Mistake>
 pub fn bytes_of_hex(heap: Global, text: &str) -> Result<Vec<u8>, Mistake>
     ensures { MatchResult result (λ v. Spells text.now v.items) (λ e. HexRefused text.now e) }
 {
-    let digits = text.as_bytes();
-    if digits.len() % 2 != 0 {
+    let (pairs, rest) = text.as_bytes().as_chunks::<2>();
+    if !rest.is_empty() {
         return Err(Mistake::OddHex);
     }
     let mut bytes = Vec::new(heap);
-    for pair in digits.chunks_exact(2) {
-        bytes.push(byte(pair[0], pair[1])?)?;
+    for [high, low] in pairs {
+        bytes.push(byte(*high, *low)?)?;
     }
     Ok(bytes)
 }

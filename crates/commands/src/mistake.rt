@@ -3,6 +3,7 @@ ghost use Rattle.commands.specs.declared.mistake.Mistake.TheVariants.{NoMemory};
 ghost use Rattle.std.specs.Prelude.{◌≡◌};
 
 use std::alloc::{AllocError, AllocFailed};
+use std::error::Error;
 use std::fmt;
 
 #[derive(Clone, Copy, PartialEq, Eq, Debug)]
@@ -48,6 +49,8 @@ impl fmt::Display for Mistake {
         })
     }
 }
+
+impl Error for Mistake {}
 
 impl From<AllocError> for Mistake {
     ghost from_gives = { λ _ r. r ≡ NoMemory };

@@ -14,7 +14,7 @@ struct Disk<'a> {
     rt: &'a HostRuntime,
 }
 
-// What a file is refused for that could not be read for this reason.
+// What a file is refused for that could not be read for this reason. No `From`: this is so of the files that a script names alone.
 fn reading_mistake(kind: io::ErrorKind) -> Mistake {
     match kind {
         io::ErrorKind::OutOfMemory => Mistake::NoMemory,

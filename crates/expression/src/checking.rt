@@ -16,7 +16,8 @@ pub struct Seen {
 }
 
 // Bytes that are read as an expression, and the names that it may use. Numbers and truths have a function each, here as in the
-// evaluator: their operators and what follows these differ, and one function would take the reading as a parameter, in a cycle.
+// evaluator: their operators and what follows these differ, and one function would take the reading as a closure, which needs
+// a clause of its own in a cycle and is longer than the two calls.
 #[derive(Clone, Copy)]
 struct Checker<'a> {
     bytes: &'a [u8],

@@ -3,6 +3,9 @@ ghost use Rattle.expression.specs.Operators.{number_operator_of, number_meant, t
 ghost use Rattle.language.specs.Expressions.{byte_at, judged, number_operator, truth_operator};
 ghost use Rattle.std.specs.Prelude.{◌≡◌};
 
+use std::error::Error;
+use std::fmt;
+
 // The most levels that an expression may nest.
 pub const LEVELS: u8 = 8;
 
@@ -30,6 +33,14 @@ pub enum TruthOperator {
 // The byte is no such operator.
 #[derive(Clone, Copy, PartialEq, Eq, Debug)]
 pub struct NoOperator;
+
+impl fmt::Display for NoOperator {
+    fn fmt<W: fmt::Write>(&self, f: &mut fmt::Formatter<W>) -> fmt::Result {
+        f.write_str("the byte is no such operator")
+    }
+}
+
+impl Error for NoOperator {}
 
 pub fn byte_at(bytes: &[u8], place: usize) -> Option<u8>
     ensures { result ≡ byte_at bytes.now place }

@@ -1,3 +1,4 @@
+pub mod Failing
 pub mod Limits
 pub mod Tables
 pub mod Through

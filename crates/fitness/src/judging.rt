@@ -6,12 +6,11 @@ ghost use Rattle.units.specs.Sealing.{verdict};
 use crate::awaiting::lowest_circular;
 use crate::check::Check;
 use crate::controlling::lowest_badly_controlled;
-use crate::looking::lowest_found;
+use crate::looking::failure;
 use crate::sight::lowest_sees_too_much;
 use crate::width::too_wide;
 use drawing::{Drawing, Outline};
 use model::Fault;
-use sights::Test;
 
 // What is wrong with the drawing, if anything.
 pub fn judge<D: Drawing>(drawing: &D) -> Option<Fault>
@@ -22,7 +21,6 @@ pub fn judge<D: Drawing>(drawing: &D) -> Option<Fault>
         .or_else(|| Check::Control.refused_at(lowest_badly_controlled(drawing)))
         .or_else(|| Check::Circle.refused_at(lowest_circular(drawing)))
         .or_else(|| Check::Sight.refused_at(lowest_sees_too_much(drawing)))
-        .or_else(|| Check::Stuck.refused_at(lowest_found(drawing, Test::NothingOpen)))
-        .or_else(|| Check::Outside.refused_at(lowest_found(drawing, Test::GivesOutside)))
+        .or_else(|| failure(drawing))
         .or_else(|| Check::Width.refused_if(too_wide(drawing)))
 }

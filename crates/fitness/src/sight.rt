@@ -11,7 +11,8 @@ use model::lowest_below;
 // How many values an atom may see.
 const MOST: u64 = 65_536;
 
-// How many values the atom sees of one name.
+// How many values the atom sees of one name. An atom goes by its number beside its drawing, here and in the questions of a drawing:
+// a struct of both would be made for one call, and taken apart in each clause.
 fn values_seen<D: Outline>(drawing: &D, atom: u8, name: u8) -> u64
     ensures { result ≡ seen_values (D.Outline.outline drawing.now) atom name }
 {

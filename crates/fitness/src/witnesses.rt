@@ -18,8 +18,8 @@ fn witness<D: Drawing>(drawing: &D, test: Test, atom: u8) -> Option<Sight>
     first_sight(drawing, test, atom)
 }
 
-// The first values in range of what the atom sees at which it has no open choice. This and the next are public
-// and each is named after what it finds; what they do is one call.
+// The first values in range of what the atom sees at which it has no open choice. This and the next are one call each of the function
+// for both: with the test as an argument every caller would name the test in place of what it finds, in as many words.
 pub fn stuck_at<D: Drawing>(drawing: &D, atom: u8) -> Option<Sight>
     ensures first { result ≡ witness (D.Outline.outline drawing.now) (D.Drawing.meaning drawing.now) NothingOpen atom }
     ensures told { WitnessTold (D.Outline.outline drawing.now) (D.Drawing.meaning drawing.now) NothingOpen atom result }

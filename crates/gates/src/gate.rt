@@ -5,6 +5,8 @@ ghost use Rattle.model.specs.Sets.{has};
 ghost use Rattle.model.specs.States.{value};
 
 use model::{Names, Round, State, value_of};
+use std::error::Error;
+use std::fmt;
 
 // A gate by the names of its wires. A latch stores a bit under a name of its own: `set` turns it on,
 // `reset` off, and `out` shows what was stored.
@@ -30,6 +32,14 @@ pub enum Gate {
 // Five bytes that describe no gate.
 #[derive(Clone, Copy, PartialEq, Eq, Debug)]
 pub struct Malformed;
+
+impl fmt::Display for Malformed {
+    fn fmt<W: fmt::Write>(&self, f: &mut fmt::Formatter<W>) -> fmt::Result {
+        f.write_str("the five bytes describe no gate")
+    }
+}
+
+impl Error for Malformed {}
 
 impl TryFrom<[u8; 5]> for Gate {
     type Error = Malformed;

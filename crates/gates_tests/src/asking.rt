@@ -2,7 +2,7 @@
 use drawing::{Drawing, Outline};
 use gates::GateList;
 use model::{Fault, Kind, Round, State};
-use samples::is_just;
+use samples::{Moment, has_sets, opens_just};
 use std::process::Abort;
 
 // Every fault of a gate list has number 18 and layer 0.
@@ -35,10 +35,8 @@ fn has_just(list: &GateList, variables: Variables) -> bool {
 pub struct Told<'a>(pub [&'a [u8]; 3], pub [u8; 2]);
 
 fn tells(list: &GateList, atom: u8, told: Told) -> bool {
-    let Told([controlled, read, awaited], [initial, update]) = told;
-    is_just(list.controls(atom), controlled)
-        && is_just(list.reads(atom), read)
-        && is_just(list.awaits(atom), awaited)
+    let Told(sets, [initial, update]) = told;
+    has_sets(list, atom, sets)
         && list.choices(Round::Initial, atom) == initial
         && list.choices(Round::Update, atom) == update
 }
@@ -51,28 +49,12 @@ fn is_absent(list: &GateList, atom: u8) -> bool {
         && gives_always(list, atom, 0, [0, 0, 0])
 }
 
-// Are these choices of the atom open, and no others?
-pub fn opens_just(
-    list: &GateList,
-    round: Round,
-    atom: u8,
-    old: State,
-    new: State,
-    open: &[u8],
-) -> bool {
-    (0..=255u8).all(|choice| {
-        list.is_open(round, atom, choice, old, new) == open.contains(&choice)
-    })
-}
-
 const ROUNDS: [Round; 2] = [Round::Initial, Round::Update];
 
 // The same in both rounds, whatever the old values.
 pub fn opens_always(list: &GateList, atom: u8, new: State, open: &[u8]) -> bool {
     [[0; 32], [1; 32], [2; 32]].iter().all(|old| {
-        ROUNDS
-            .iter()
-            .all(|round| opens_just(list, *round, atom, *old, new, open))
+        ROUNDS.iter().all(|round| opens_just(list, atom, Moment(*round, *old, new), open))
     })
 }
 

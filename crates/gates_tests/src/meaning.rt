@@ -1,9 +1,8 @@
 // What opened lists tell.
-use crate::asking::{
-    Told, Variables, gives_always, gives_just, has_outline, opens_always, opens_just,
-};
+use crate::asking::{Told, Variables, gives_always, gives_just, has_outline, opens_always};
 use gates::GateList;
 use model::{Round, State};
+use samples::{Moment, opens_just};
 
 // 5 shows 0 OR 1: NOT 0 to 2, NOT 1 to 3, AND 2 and 3 to 4, NOT 4 to 5.
 fn or_list() -> GateList {
@@ -131,8 +130,8 @@ fn choices_of_latch(rt: HostRuntime) {
     for (set, reset, open) in cases {
         let new = state([set, reset, 1, 1, 0, 0]);
         assert!(rt; opens_always(&list, 1, new, open));
-        assert!(rt; opens_just(&list, Round::Initial, 0, [1; 32], new, &[0, 1]));
-        assert!(rt; opens_just(&list, Round::Update, 0, [1; 32], new, &[0]));
+        assert!(rt; opens_just(&list, 0, Moment(Round::Initial, [1; 32], new), &[0, 1]));
+        assert!(rt; opens_just(&list, 0, Moment(Round::Update, [1; 32], new), &[0]));
     }
     // what is given by the old value of 3, which only an update looks at
     let given = [

@@ -65,8 +65,8 @@ impl Reader<'_> {
     }
 
     // So many atoms. `choices`, `numbers` and `variables` go on in the same way, and fill a row of another type, nothing, or an
-    // array by name: a function for all would take the reading of one item as a closure over the reader that it moves, and would
-    // be longer than each of them.
+    // array by name. By `try_for_each` nothing is known of the reader that its closure moves; a function for rows of any type has
+    // to tell of each call in turn, and is longer than what it saves the two that fill one.
     pub fn atoms(&mut self, variables: &Variables, count: u8) -> Result<Row<AtomLayout, 16>, Fault>
         requires { count ≤ 16 }
         ensures { (vs : List TableVariable) → VariablesLaid vs variables.now → Reads (AtomsLaid self.old.bytes.now) (many (read_atom vs) count) self.old self.new result }

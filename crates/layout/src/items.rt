@@ -22,11 +22,7 @@ impl Reader<'_> {
         let size = self.byte_between(Rule::Expression, 1, 64)?;
         let start = usize::from(self.place());
         let part = self.part(size)?;
-        // a match: with a closure, what the fault asks of its place was not proved
-        match check(part) {
-            Ok(()) => Ok(()),
-            Err(fault) => Err(Rule::Expression.broken_at(start + fault)),
-        }
+        check(part).map_err(|fault| Rule::Expression.broken_at(start + fault))
     }
 
     pub fn truth(&mut self, seen: &Seen) -> Result<(), Fault>

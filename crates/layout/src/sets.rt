@@ -38,7 +38,9 @@ fn all_pass<F: Fn(Variable) -> bool>(variables: &Variables, names: &Names, test:
     })
 }
 
-// Does each name of the set stand for a variable?
+// Does each name of the set stand for a variable? `VariablesLaid` and `NamesOf`, here and in the contracts of `are_own`, of
+// `seen_in` and of the readers of atoms, tie what is at hand to the list and the word that a definition reads: no field holds
+// those, and so no type can.
 pub fn are_known(variables: &Variables, names: &Names) -> bool
     ensures { (vs : List TableVariable) (w : ℕ) → VariablesLaid vs variables.now → NamesOf w names.now → result ≡ names_variables vs w }
 {

@@ -1,4 +1,5 @@
-// Questions after all numbers below a bound.
+// Questions after all numbers below a bound. Each asks that its test can be called at the numbers below the bound: only the caller
+// knows that of its closure, so no type can keep it.
 ghost use Rattle.model.specs.Tests.{every, some, lowest, count, Answers};
 ghost use Rattle.std.specs.Prelude.{◌≡◌, ◌<◌, ℕ, Bool};
 

@@ -7,6 +7,7 @@ ghost use Rattle.std.specs.Prelude.{◌≡◌};
 
 mod below;
 mod exchange;
+mod faults;
 mod kinds;
 mod names;
 mod row;
@@ -14,7 +15,7 @@ mod row;
 pub use below::{all_below, any_below, count_below, lowest_below};
 pub use exchange::exchanged;
 pub use kinds::{UnknownKind, UnknownRound};
-pub use names::Names;
+pub use names::{Members, Names};
 pub use row::{Full, Row};
 
 // How a module's variable is controlled and seen: by the module alone, by the module for all to see,

@@ -2,7 +2,10 @@
 // for a name without a search.
 ghost use Rattle.std.specs.Prelude.{◌≡◌, length};
 
+mod members;
 mod methods;
+
+pub use members::Members;
 
 #[derive(Clone, Copy, PartialEq, Eq, Debug)]
 pub struct Names {

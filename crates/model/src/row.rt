@@ -2,12 +2,22 @@
 ghost use Rattle.std.specs.Prelude.{◌≡◌, ◌≤◌, ⊤, length};
 
 use std::alloc::AllocError;
+use std::error::Error;
+use std::fmt;
 
 mod methods;
 
 // There is no room for another item.
 #[derive(Clone, Copy, PartialEq, Eq, Debug)]
 pub struct Full;
+
+impl fmt::Display for Full {
+    fn fmt<W: fmt::Write>(&self, f: &mut fmt::Formatter<W>) -> fmt::Result {
+        f.write_str("there is no room for another item")
+    }
+}
+
+impl Error for Full {}
 
 // At most N items, which stand first in an array; what stands behind them means nothing.
 #[derive(Debug)]

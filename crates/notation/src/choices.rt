@@ -1,12 +1,13 @@
 // What the choices of an atom do, as the table says that has the atom.
+use crate::assignment::Assignment;
 use crate::infix::{Written, WrittenNumber, WrittenTruth};
 use crate::listed::Listed;
-use any_drawing::{AnyDrawing, Tree};
+use any_drawing::{AnyDrawing, Node};
 use drawing::{Drawing, Outline};
 use model::{Round, State, value_of};
 use piles::Exchange;
 use std::alloc::{AllocError, Global};
-use std::{array, fmt};
+use std::array;
 use table::Table;
 
 // The choices of an atom in one kind of round, in the table that has it, and what each name is called.
@@ -18,19 +19,6 @@ struct Choices<'a> {
     naming: State,
 }
 
-// What a choice gives to a name, as it is called.
-#[derive(Clone, Copy)]
-struct Given<'a> {
-    name: u8,
-    number: WrittenNumber<'a>,
-}
-
-impl fmt::Display for Given<'_> {
-    fn fmt<W: fmt::Write>(&self, f: &mut fmt::Formatter<W>) -> fmt::Result {
-        write!(f, "name {} := {}", self.name, self.number)
-    }
-}
-
 impl<'a> Choices<'a> {
     fn written(&self, bytes: &'a [u8]) -> Written<'a> {
         Written {
@@ -39,14 +27,18 @@ impl<'a> Choices<'a> {
         }
     }
 
-    // What the choice gives, names rising as the table has them.
-    fn given(&self, heap: Global, choice: u8) -> Result<Vec<Given<'a>>, AllocError> {
-        let controls = self.table.controls(self.atom);
-        (0..32u8)
-            .filter(|name| controls.has(*name))
-            .map(|name| Given {
+    // What the choice gives, names rising as the table has them, each told as it is called.
+    fn given(
+        &self,
+        heap: Global,
+        choice: u8,
+    ) -> Result<Vec<Assignment<WrittenNumber<'a>>>, AllocError> {
+        self.table
+            .controls(self.atom)
+            .iter()
+            .map(|name| Assignment {
                 name: value_of(self.naming, name),
-                number: WrittenNumber(self.written(
+                value: WrittenNumber(self.written(
                     self.table.number(self.round, self.atom, choice, name),
                 )),
             })
@@ -78,12 +70,12 @@ fn naming_below(naming: State, old: u8, new: u8) -> State {
 fn add_lines_below(
     heap: Global,
     text: &mut String,
-    tree: &Tree,
+    drawing: &AnyDrawing,
     atom: u8,
     naming: State,
 ) -> Result<(), AllocError> {
-    match tree {
-        Tree::Table(table) => {
+    match drawing.node() {
+        Node::Table(table) => {
             for round in [Round::Initial, Round::Update] {
                 let choices = Choices {
                     table,
@@ -95,8 +87,8 @@ fn add_lines_below(
             }
             Ok(())
         }
-        Tree::Gates(_) => Ok(()),
-        Tree::Join {
+        Node::Gates(_) => Ok(()),
+        Node::Join {
             left,
             right,
             left_atoms,
@@ -105,13 +97,13 @@ fn add_lines_below(
             None => add_lines_below(heap, text, left, atom, naming),
             Some(atom) => add_lines_below(heap, text, right, atom, naming),
         },
-        Tree::Rename {
+        Node::Rename {
             below,
             old,
             new,
             ..
         } => add_lines_below(heap, text, below, atom, naming_below(naming, *old, *new)),
-        Tree::Hide { below, .. } => add_lines_below(heap, text, below, atom, naming),
+        Node::Hide { below, .. } => add_lines_below(heap, text, below, atom, naming),
     }
 }
 
@@ -123,7 +115,7 @@ pub fn choice_lines(heap: Global, drawing: &AnyDrawing, atom: u8) -> Result<Stri
     add_lines_below(
         heap,
         &mut text,
-        drawing.tree(),
+        drawing,
         atom,
         array::from_fn(|name| name as u8),
     )?;

@@ -3,7 +3,8 @@ use expression::{LEVELS, NumberOperator, TruthOperator};
 use model::{State, value_of};
 use std::fmt;
 
-// What is left to read of a written expression, and what each name is called.
+// What is left to read of a written expression, and what each name is called. How many levels are left goes as a parameter, since one
+// reader is read on at all levels. Numbers and truths are told by functions of their own, as an evaluator has them (`expression`).
 #[derive(Clone, Copy)]
 pub struct Written<'a> {
     pub bytes: &'a [u8],
@@ -11,7 +12,7 @@ pub struct Written<'a> {
 }
 
 impl Written<'_> {
-    // Passes over the next byte, which is told as 0 where there is none.
+    // Passes over the next byte. It is told as 0 where there is none, which is so only where the expression is not right.
     fn next(&mut self) -> u8 {
         let Some((byte, rest)) = self.bytes.split_first() else {
             return 0;

@@ -1,2 +1,3 @@
 pub mod Acyclic
 pub mod Placing
+mod Rest

@@ -1,5 +1,5 @@
 -- Orders of atoms in which each comes after those that it awaits. Assumes nothing.
-use Rattle.std.specs.Prelude.{◌≡◌, ℕ, ◌<◌, Bool, true, false, not, ◌&&◌, List, None, slice_index}
+use Rattle.std.specs.Prelude.{◌≡◌, ℕ, ◌<◌, ◌≤◌, Bool, true, false, not, ◌&&◌, List, None, slice_index}
 use Rattle.model.specs.Meanings.{OutlineFacts}
 use Rattle.model.specs.Tests.{some, lowest}
 use Rattle.units.specs.Sealing.{awaits_atom, circular}
@@ -14,6 +14,10 @@ pub record InOrder (awaits : ℕ → ℕ → Bool) (atoms : ℕ) (order : List �
   pub only : (i : ℕ) → i < atoms → atom_at order i < atoms
   pub once : (i j : ℕ) → i < atoms → j < atoms → atom_at order i ≡ atom_at order j → i ≡ j
   pub after : (i j : ℕ) → i < atoms → j < atoms → awaits (atom_at order i) (atom_at order j) ≡ true → j < i
+
+-- from this place on all are 0
+abbrev pub ZerosFrom : ℕ → List ℕ → Type 0
+ZerosFrom n order = (i : ℕ) → n ≤ i → atom_at order i ≡ 0
 
 -- the order of an outline's atoms
 abbrev pub AtomsInOrder : OutlineFacts → List ℕ → Type 0

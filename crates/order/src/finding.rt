@@ -3,7 +3,7 @@ ghost use Rattle.std.specs.Prelude.{◌≡◌, length};
 ghost use Rattle.fitness.specs.Steps.{direct};
 ghost use Rattle.model.specs.Sets.{has};
 ghost use Rattle.model.specs.Tests.{lowest};
-ghost use Rattle.order.specs.Orders.{InOrder, AtomsInOrder, NoneCircular, ready, NeverStuck};
+ghost use Rattle.order.specs.Orders.{InOrder, AtomsInOrder, NoneCircular, ZerosFrom, ready, NeverStuck};
 
 use drawing::Drawing;
 use fitness::AwaitTable;
@@ -32,6 +32,7 @@ fn next(table: &AwaitTable, placed: &Names) -> Option<u8>
 fn order_by(table: &AwaitTable) -> [u8; 16]
     ensures long { length result ≡ 16 }
     ensures ordered { NeverStuck (direct table.now) table.now.atoms → InOrder (direct table.now) table.now.atoms result }
+    ensures rest { ZerosFrom table.now.atoms result }
 {
     let mut order = [0; 16];
     let mut placed = Names::none();
@@ -46,10 +47,11 @@ fn order_by(table: &AwaitTable) -> [u8; 16]
 }
 
 // The drawing's atoms in an order in which each comes after those that it awaits, where none awaits itself, directly or
-// through others.
+// through others; behind them stand zeros.
 pub fn order_of<D: Drawing>(drawing: &D) -> [u8; 16]
     ensures long { length result ≡ 16 }
     ensures ordered { NoneCircular (D.Drawing.meaning drawing.now).outline → AtomsInOrder (D.Drawing.meaning drawing.now).outline result }
+    ensures rest { ZerosFrom (D.Drawing.meaning drawing.now).outline.atoms result }
 {
     order_by(&AwaitTable::of(drawing))
 }

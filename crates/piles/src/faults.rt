@@ -28,48 +28,64 @@ fn deeper(fault: Fault, by: u16) -> Fault
     }
 }
 
-// Is the name private in one and there in the other, or interface in both?
-fn kinds_clash<L: Outline, R: Outline>(left: &L, right: &R, name: u8) -> bool
-    ensures { result ≡ clashes (L.Outline.outline left.now) (R.Outline.outline right.now) name }
-{
-    matches!(
-        (left.kind(name), right.kind(name)),
-        (Some(Kind::Private), Some(_))
-            | (Some(_), Some(Kind::Private))
-            | (Some(Kind::Interface), Some(Kind::Interface))
-    )
+// The two parts of a join.
+#[derive(Drop)]
+struct Parts<'a, L, R> {
+    left: &'a L,
+    right: &'a R,
 }
 
-// The lowest name at which the two clash.
-fn lowest_clash<L: Outline, R: Outline>(left: &L, right: &R) -> Option<u8>
-    ensures { result ≡ lowest (clashes (L.Outline.outline left.now) (R.Outline.outline right.now)) 32 }
-{
-    lowest_below(32, |name| kinds_clash(left, right, name))
-}
+impl<L: Outline, R: Outline> Parts<'_, L, R> {
+    // Is the name private in one and there in the other, or interface in both?
+    fn clash(&self, name: u8) -> bool
+        ensures { result ≡ clashes (L.Outline.outline self.now.left.now) (R.Outline.outline self.now.right.now) name }
+    {
+        matches!(
+            (self.left.kind(name), self.right.kind(name)),
+            (Some(Kind::Private), Some(_))
+                | (Some(_), Some(Kind::Private))
+                | (Some(Kind::Interface), Some(Kind::Interface))
+        )
+    }
 
-// Do the two share the name, with two tops?
-fn tops_differ<L: Outline, R: Outline>(left: &L, right: &R, name: u8) -> bool
-    ensures { result ≡ differs (L.Outline.outline left.now) (R.Outline.outline right.now) name }
-{
-    left.kind(name).is_some() && right.kind(name).is_some() && left.top(name) != right.top(name)
-}
+    // The lowest name at which the two clash.
+    fn lowest_clash(&self) -> Option<u8>
+        ensures { result ≡ lowest (clashes (L.Outline.outline self.now.left.now) (R.Outline.outline self.now.right.now)) 32 }
+    {
+        lowest_below(32, |name| self.clash(name))
+    }
 
-// The lowest shared name with two tops.
-fn lowest_difference<L: Outline, R: Outline>(left: &L, right: &R) -> Option<u8>
-    ensures { result ≡ lowest (differs (L.Outline.outline left.now) (R.Outline.outline right.now)) 32 }
-{
-    lowest_below(32, |name| tops_differ(left, right, name))
-}
+    // Do the two share the name, with two tops?
+    fn differ(&self, name: u8) -> bool
+        ensures { result ≡ differs (L.Outline.outline self.now.left.now) (R.Outline.outline self.now.right.now) name }
+    {
+        self.left.kind(name).is_some()
+            && self.right.kind(name).is_some()
+            && self.left.top(name) != self.right.top(name)
+    }
 
-// What is wrong with the join of two drawings that have no fault themselves.
-fn own_join_fault<L: Outline, R: Outline>(left: &L, right: &R) -> Option<Fault>
-    ensures { result ≡ join_fault (L.Outline.outline left.now) (R.Outline.outline right.now) }
-{
-    let atoms = u16::from(left.atoms()) + u16::from(right.atoms());
-    lowest_clash(left, right)
-        .map(|name| Rule::KindsAgree.broken(name))
-        .or_else(|| lowest_difference(left, right).map(|name| Rule::TopsAgree.broken(name)))
-        .or_else(|| (atoms > ATOMS).then(|| Rule::FewAtoms.broken(0)))
+    // The lowest shared name with two tops.
+    fn lowest_difference(&self) -> Option<u8>
+        ensures { result ≡ lowest (differs (L.Outline.outline self.now.left.now) (R.Outline.outline self.now.right.now)) 32 }
+    {
+        lowest_below(32, |name| self.differ(name))
+    }
+
+    // What is wrong with the join of two drawings that have no fault themselves. All three are looked for: where closures look for one
+    // after the other in these parts, what the whole answers was not proved (tried).
+    fn own_fault(&self) -> Option<Fault>
+        ensures { result ≡ join_fault (L.Outline.outline self.now.left.now) (R.Outline.outline self.now.right.now) }
+    {
+        let atoms = u16::from(self.left.atoms()) + u16::from(self.right.atoms());
+        let clash = self
+            .lowest_clash()
+            .map(|name| Rule::KindsAgree.broken(name));
+        let difference = self
+            .lowest_difference()
+            .map(|name| Rule::TopsAgree.broken(name));
+        let crowd = (atoms > ATOMS).then(|| Rule::FewAtoms.broken(0));
+        clash.or(difference).or(crowd)
+    }
 }
 
 pub fn join_fault<L: Outline, R: Outline>(left: &L, right: &R) -> Option<Fault>
@@ -79,7 +95,7 @@ pub fn join_fault<L: Outline, R: Outline>(left: &L, right: &R) -> Option<Fault>
     left.fault()
         .map(|fault| deeper(fault, 1))
         .or_else(|| right.fault().map(|fault| deeper(fault, below)))
-        .or_else(|| own_join_fault(left, right))
+        .or_else(|| Parts { left, right }.own_fault())
 }
 
 // The old name must be there, and the new one a name that is not.

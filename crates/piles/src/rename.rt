@@ -24,7 +24,9 @@ pub struct Rename<D: Outline> {
 }
 
 impl<D: Drawing> Rename<D> {
-    // Renames in any drawing. A fault still makes a drawing, which tells it and has no variables and no atoms.
+    // Renames in any drawing. A fault still makes a drawing, which tells it and has no variables and no atoms. The old and the new
+    // name go as two numbers through all that renames: nothing is asked of them alone that a struct of both could answer, for any
+    // two may be brought.
     pub fn new(below: D, old: u8, new: u8) -> Rename<D>
         ensures below { result.below ≡ below }
         ensures old { result.old ≡ old }

@@ -1,9 +1,9 @@
 // The drawings that the tests pile up, and the questions that they ask of a pile.
 use drawing::Outline;
 use gates::GateList;
-use model::Kind;
+use model::{Fault, Kind};
 use piles::join_fault;
-use samples::{inverter, is_fault};
+use samples::inverter;
 
 // A list of two NOT gates of one input.
 pub fn fork(a: u8, first: u8, second: u8) -> GateList {
@@ -24,19 +24,13 @@ pub fn fifteen() -> GateList {
     GateList::open(&bytes)
 }
 
-pub fn has_fault<D: Outline>(drawing: &D, number: u8, layer: u8, place: u16) -> bool {
-    is_fault(drawing.fault(), number, layer, place)
+pub fn has_fault<D: Outline>(drawing: &D, fault: Fault) -> bool {
+    drawing.fault() == Some(fault)
 }
 
 // Is this what is wrong with the join of the two?
-pub fn join_has_fault<L: Outline, R: Outline>(
-    left: &L,
-    right: &R,
-    number: u8,
-    layer: u8,
-    place: u16,
-) -> bool {
-    is_fault(join_fault(left, right), number, layer, place)
+pub fn join_has_fault<L: Outline, R: Outline>(left: &L, right: &R, fault: Fault) -> bool {
+    join_fault(left, right) == Some(fault)
 }
 
 // Is nothing wrong, and is the drawing piled of so many layers with so many atoms?

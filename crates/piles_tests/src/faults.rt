@@ -8,19 +8,19 @@ use samples::{faulty, not};
 #[test]
 fn joins_that_clash(rt: HostRuntime) {
     assert!(rt;
-        has_fault(&Join::new(not(0, 1), not(2, 1)), 9, 0, 1),
+        has_fault(&Join::new(not(0, 1), not(2, 1)), Fault::own(9, 1)),
         "interface in both"
     );
     assert!(rt;
-        has_fault(&Join::new(fork(8, 5, 3), fork(9, 3, 5)), 9, 0, 3),
+        has_fault(&Join::new(fork(8, 5, 3), fork(9, 3, 5)), Fault::own(9, 3)),
         "the lowest name"
     );
     assert!(rt;
-        has_fault(&Join::new(latch(0, 1, 2, 6), not(6, 3)), 9, 0, 6),
+        has_fault(&Join::new(latch(0, 1, 2, 6), not(6, 3)), Fault::own(9, 6)),
         "private on the left"
     );
     assert!(rt;
-        has_fault(&Join::new(not(6, 3), latch(0, 1, 2, 6)), 9, 0, 6),
+        has_fault(&Join::new(not(6, 3), latch(0, 1, 2, 6)), Fault::own(9, 6)),
         "private on the right"
     );
     assert!(rt; is_sound(&Join::new(not(0, 1), not(1, 0)), 3, 2), "a ring");
@@ -36,11 +36,11 @@ fn joins_with_two_tops(rt: HostRuntime) {
         atoms: 0,
     };
     assert!(rt;
-        join_has_fault(&not(4, 1), &sketch, 10, 0, 1),
+        join_has_fault(&not(4, 1), &sketch, Fault::own(10, 1)),
         "the lowest name"
     );
     assert!(rt;
-        join_has_fault(&sketch, &not(0, 4), 10, 0, 4),
+        join_has_fault(&sketch, &not(0, 4), Fault::own(10, 4)),
         "the one shared name"
     );
     assert!(rt; join_fault(&sketch, &sketch).is_none(), "one top");
@@ -57,15 +57,15 @@ fn the_first_rule_of_a_join(rt: HostRuntime) {
         atoms: 16,
     };
     assert!(rt;
-        join_has_fault(&latch(0, 1, 2, 6), &uneven, 9, 0, 6),
+        join_has_fault(&latch(0, 1, 2, 6), &uneven, Fault::own(9, 6)),
         "a clash above two tops"
     );
     assert!(rt;
-        join_has_fault(&not(6, 0), &uneven, 10, 0, 0),
+        join_has_fault(&not(6, 0), &uneven, Fault::own(10, 0)),
         "two tops and too many atoms"
     );
     assert!(rt;
-        join_has_fault(&not(2, 3), &uneven, 11, 0, 0),
+        join_has_fault(&not(2, 3), &uneven, Fault::own(11, 0)),
         "too many atoms alone"
     );
 }
@@ -77,7 +77,7 @@ fn joins_with_too_many_atoms(rt: HostRuntime) {
         "sixteen atoms"
     );
     assert!(rt;
-        has_fault(&Join::new(fifteen(), fork(31, 15, 16)), 11, 0, 0),
+        has_fault(&Join::new(fifteen(), fork(31, 15, 16)), Fault::own(11, 0)),
         "seventeen atoms"
     );
 }
@@ -85,19 +85,19 @@ fn joins_with_too_many_atoms(rt: HostRuntime) {
 #[test]
 fn renames(rt: HostRuntime) {
     assert!(rt;
-        has_fault(&Rename::new(not(0, 1), 1, 1), 7, 0, 1),
+        has_fault(&Rename::new(not(0, 1), 1, 1), Fault::own(7, 1)),
         "to itself"
     );
     assert!(rt;
-        has_fault(&Rename::new(not(0, 1), 1, 0), 7, 0, 1),
+        has_fault(&Rename::new(not(0, 1), 1, 0), Fault::own(7, 1)),
         "to a name that is there"
     );
     assert!(rt;
-        has_fault(&Rename::new(not(0, 1), 1, 32), 7, 0, 1),
+        has_fault(&Rename::new(not(0, 1), 1, 32), Fault::own(7, 1)),
         "to no name"
     );
     assert!(rt;
-        has_fault(&Rename::new(not(0, 1), 200, 2), 7, 0, 200),
+        has_fault(&Rename::new(not(0, 1), 200, 2), Fault::own(7, 200)),
         "of no name"
     );
     assert!(rt;
@@ -109,12 +109,15 @@ fn renames(rt: HostRuntime) {
 #[test]
 fn hides(rt: HostRuntime) {
     assert!(rt;
-        has_fault(&Hide::new(not(0, 1), 0), 8, 0, 0),
+        has_fault(&Hide::new(not(0, 1), 0), Fault::own(8, 0)),
         "an external name"
     );
-    assert!(rt; has_fault(&Hide::new(not(0, 1), 200), 8, 0, 200), "no name");
     assert!(rt;
-        has_fault(&Hide::new(Hide::new(not(0, 1), 1), 1), 8, 0, 1),
+        has_fault(&Hide::new(not(0, 1), 200), Fault::own(8, 200)),
+        "no name"
+    );
+    assert!(rt;
+        has_fault(&Hide::new(Hide::new(not(0, 1), 1), 1), Fault::own(8, 1)),
         "a private name"
     );
     assert!(rt;
@@ -126,20 +129,51 @@ fn hides(rt: HostRuntime) {
 #[test]
 fn layers_below(rt: HostRuntime) {
     let twice = Rename::new(Rename::new(faulty(), 0, 0), 1, 1);
-    assert!(rt; has_fault(&twice, 18, 2, 5), "below two renames");
+    assert!(rt;
+        has_fault(
+            &twice,
+            Fault {
+                number: 18,
+                layer: 2,
+                place: 5
+            }
+        ),
+        "below two renames"
+    );
     assert!(rt; is_empty(&twice), "no variables and no atoms");
     let left = Rename::new(not(0, 1), 0, 2);
     assert!(rt;
-        has_fault(&Join::new(left, Hide::new(faulty(), 0)), 18, 4, 5),
+        has_fault(
+            &Join::new(left, Hide::new(faulty(), 0)),
+            Fault {
+                number: 18,
+                layer: 4,
+                place: 5
+            }
+        ),
         "on the right"
     );
     let wrong = Hide::new(not(0, 1), 0);
     assert!(rt;
-        has_fault(&Join::new(wrong, faulty()), 8, 1, 0),
+        has_fault(
+            &Join::new(wrong, faulty()),
+            Fault {
+                number: 8,
+                layer: 1,
+                place: 0
+            }
+        ),
         "left before right"
     );
     assert!(rt;
-        has_fault(&Join::new(not(0, 1), Hide::new(not(0, 1), 0)), 8, 2, 0),
+        has_fault(
+            &Join::new(not(0, 1), Hide::new(not(0, 1), 0)),
+            Fault {
+                number: 8,
+                layer: 2,
+                place: 0
+            }
+        ),
         "below before own"
     );
 }
@@ -159,6 +193,28 @@ fn layers_past_255(rt: HostRuntime) {
         atoms: 0,
     };
     let wrong = Sketch { fault, ..deep };
-    assert!(rt; join_has_fault(&wrong, &deep, 18, 201, 3), "on the left");
-    assert!(rt; join_has_fault(&deep, &wrong, 18, 255, 3), "on the right");
+    assert!(rt;
+        join_has_fault(
+            &wrong,
+            &deep,
+            Fault {
+                number: 18,
+                layer: 201,
+                place: 3
+            }
+        ),
+        "on the left"
+    );
+    assert!(rt;
+        join_has_fault(
+            &deep,
+            &wrong,
+            Fault {
+                number: 18,
+                layer: 255,
+                place: 3
+            }
+        ),
+        "on the right"
+    );
 }

@@ -1,5 +1,6 @@
 // Tables, gate lists and expressions as bytes.
 use std::alloc::AllocError;
+use std::iter::repeat_n;
 
 // A table of one variable, the interface bit 0, and one atom that controls and reads it: it starts at 0, and an update takes its
 // old value from this number.
@@ -26,9 +27,7 @@ pub const FAULTY: [u8; 10] = [0, 0, 255, 1, 255, 7, 0, 255, 2, 255];
 // A sum of so many times 255, a power of two, that nests as little as it can: 3 n - 1 bytes.
 pub fn push_sum(bytes: &mut Vec<u8>, count: u32) -> Result<(), AllocError> {
     for leaf in 0..count {
-        for _ in 0..(leaf | count).trailing_zeros() {
-            bytes.push(3)?;
-        }
+        bytes.extend(repeat_n(3, (leaf | count).trailing_zeros() as usize))?;
         bytes.push(0)?;
         bytes.push(255)?;
     }

@@ -5,6 +5,6 @@ mod asking;
 mod bytes;
 mod lists;
 
-pub use asking::{is_fault, is_just};
+pub use asking::{Moment, has_sets, is_just, opens_just};
 pub use bytes::{FAULTY, TOGGLE, inverter, push_sum, toggle};
 pub use lists::{faulty, not};

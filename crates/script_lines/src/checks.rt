@@ -1,7 +1,7 @@
 // What the tests of each vocabulary ask alike. A check that fails names the line that went wrong.
 use crate::lines::{BLANK_LINES, NAND, OUTLINE_OF_NAND, QUESTIONS};
 use crate::running::{answer, mistake};
-use commands::{Mistake, Vocabulary, bytes_of_hex};
+use commands::{Mistake, Vocabulary};
 use sessions::Session;
 use std::alloc::Global;
 use std::test::Fail;
@@ -56,33 +56,15 @@ pub fn check_not_text(heap: Global, session: &mut Session) -> Result<(), Fail> {
     )
 }
 
-pub fn check_digits_of_both_cases(heap: Global) -> Result<(), Fail> {
-    let bytes = bytes_of_hex(heap, "09aAfFf0")?;
-    expect(
-        bytes.as_slice() == [0x09, 0xaa, 0xff, 0xf0].as_slice(),
-        "09aAfFf0",
-    )?;
-    expect(bytes_of_hex(heap, "")?.is_empty(), "no digits")
-}
-
-// Texts that no hex digits spell, each with the mistake.
-const STRANGE_DIGITS: [(&str, Mistake); 11] = [
-    ("/0", Mistake::BadHex),
-    ("0:", Mistake::BadHex),
-    ("@0", Mistake::BadHex),
-    ("0G", Mistake::BadHex),
-    ("`0", Mistake::BadHex),
-    ("0g", Mistake::BadHex),
-    ("é", Mistake::BadHex),
-    ("0x", Mistake::BadHex),
-    ("0", Mistake::OddHex),
-    ("xyz", Mistake::OddHex),
-    ("000", Mistake::OddHex),
-];
-
-pub fn check_strange_digits(heap: Global) -> Result<(), Fail> {
-    for (text, why) in STRANGE_DIGITS {
-        expect(bytes_of_hex(heap, text).err() == Some(why), text)?;
+// `a` stands for a gate list still, after each of these lines is refused, which would have replaced it.
+pub fn check_alters_nothing(
+    heap: Global,
+    session: &mut Session,
+    wrong: &[&str],
+) -> Result<(), Fail> {
+    expect(mistake(heap, session, b"gates a -") == None, "gates a -")?;
+    for line in wrong {
+        expect(mistake(heap, session, line.as_bytes()).is_some(), line)?;
     }
-    Ok(())
+    expect(mistake(heap, session, b"outline a") == None, "outline a")
 }

@@ -6,8 +6,8 @@ mod lines;
 mod running;
 
 pub use checks::{
-    check_blank_lines, check_digits_of_both_cases, check_not_text, check_outline, check_questions,
-    check_refused, check_strange_digits,
+    check_alters_nothing, check_blank_lines, check_not_text, check_outline, check_questions,
+    check_refused,
 };
 pub use lines::WRONG_LINES;
 pub use running::{Shelf, answer, mistake};

@@ -4,6 +4,4 @@
 #[cfg(test)]
 mod answers;
 #[cfg(test)]
-mod hex;
-#[cfg(test)]
 mod wrong_lines;

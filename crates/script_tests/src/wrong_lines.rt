@@ -1,6 +1,6 @@
 // Lines that are refused, one of every sort.
 use commands::{Mistake, Vocabulary};
-use script_lines::{WRONG_LINES, check_not_text, check_refused, mistake};
+use script_lines::{WRONG_LINES, check_alters_nothing, check_not_text, check_refused, mistake};
 use sessions::Session;
 use std::test::Fail;
 
@@ -15,13 +15,10 @@ fn every_sort_of_wrong_line(rt: HostRuntime) -> Result<(), Fail> {
 
 // What a name stood for it stands for still, after a line that would have replaced it.
 #[test]
-fn a_wrong_line_alters_nothing(rt: HostRuntime) {
+fn a_wrong_line_alters_nothing(rt: HostRuntime) -> Result<(), Fail> {
     let heap = rt.alloc();
     let mut session = Session::new(heap, Vocabulary::GateLists);
-    assert!(rt; mistake(heap, &mut session, b"gates a -").is_none());
-    assert!(rt; mistake(heap, &mut session, b"gates a 0").is_some());
-    assert!(rt; mistake(heap, &mut session, b"new a").is_some());
-    assert!(rt; mistake(heap, &mut session, b"outline a").is_none());
+    check_alters_nothing(heap, &mut session, ["gates a 0", "new a"].as_slice())
 }
 
 // A verb that only the larger vocabulary has is no command, whatever words follow it.

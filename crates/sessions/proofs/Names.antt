@@ -6,9 +6,9 @@ use Rattle.std.specs.Str.{bytes_eq as same_text}
 use Rattle.commands.specs.declared.mistake.Mistake.{Mistake}
 use Rattle.commands.specs.declared.mistake.Mistake.TheVariants.{NoMemory}
 use Rattle.sessions.specs.Things.{meant, Puts, Same, Takes, Stands, Gone, Replaces}
-use Rattle.any_drawing.specs.declared.AnyDrawing.{AnyDrawing}
 use Rattle.sessions.specs.declared.made.Made.{Made}
 use Rattle.sessions.specs.declared.things.Things.{Things}
+use Rattle.any_drawing.specs.Piles.{Pile}
 
 none_of : {X : Type 0} (a : Bool) (x : X) → cond (a || false) x x ≡ x
 none_of true x = refl
@@ -41,5 +41,5 @@ replaced old mid new used name P thing (Err e) g p same = inr (same.0, λ w. sam
 other_text : (xs ys : List ℕ) → (xs ≡ ys → ⊥) → same_text xs ys ≡ false
 other_text xs ys h = false_from_ne_true (same_text xs ys) (λ e. let same : xs ≡ ys = search (rules, bytes_eq-Decides) in h same)
 
-pub stands_still : (old new : Things) (left right : List ℕ) (d : AnyDrawing) → Takes old new left → (left ≡ right → ⊥) → Stands old right d → Stands new right d
+pub stands_still : (old new : Things) (left right : List ℕ) (d : Pile) → Takes old new left → (left ≡ right → ⊥) → Stands old right d → Stands new right d
 stands_still old new left right d t apart s = t right ∙ ap (λ b. cond b None (meant old right)) (other_text right left (λ e. apart (sym e))) ∙ s

@@ -7,10 +7,10 @@ use Rattle.commands.specs.declared.source.ByteSource.TheVariants.{Given, File}
 use Rattle.model.specs.Meanings.{Meaning}
 use Rattle.sessions.specs.Sessions.{DrawnFrom}
 use Rattle.sessions.specs.Things.{meaning_of}
-use Rattle.any_drawing.specs.declared.AnyDrawing.{AnyDrawing}
 use Rattle.sessions.specs.declared.made.Made.TheVariants.{Drawing}
+use Rattle.any_drawing.specs.Piles.{Pile}
 
-pub by_source : (describes : List ℕ → Meaning → Type 0) (source : ByteSource) (bytes : Vec ℕ Global) (d : AnyDrawing) →
+pub by_source : (describes : List ℕ → Meaning → Type 0) (source : ByteSource) (bytes : Vec ℕ Global) (d : Pile) →
     Loads source (Ok bytes) → describes (vec_items bytes) (meaning_of d) → DrawnFrom describes source (Drawing d)
 by_source describes (Given given) bytes d loads means = let same : bytes ≡ given = cc in subst (λ (b : Vec ℕ Global). describes (vec_items b) (meaning_of d)) same means
 by_source describes (File path) bytes d loads means = (vec_items bytes, means)

@@ -14,11 +14,11 @@ use Rattle.commands.specs.declared.vocabulary.Vocabulary.{Vocabulary}
 use Rattle.composition.specs.Meanings.{renamed, hidden, joined}
 use Rattle.model.specs.Meanings.{Meaning}
 use Rattle.sessions.specs.Things.{meaning_of, unit_of, Nothing, Puts, Same, Stands, IsUnit, Replaces, Gone}
-use Rattle.any_drawing.specs.declared.AnyDrawing.{AnyDrawing}
 use Rattle.sessions.specs.declared.made.Made.{Made}
 use Rattle.sessions.specs.declared.made.Made.TheVariants.{Drawing, SealedUnit}
 use Rattle.sessions.specs.declared.things.Things.{Things}
 use Rattle.units.specs.Units.{seal}
+use Rattle.any_drawing.specs.Piles.{Pile}
 
 -- the thing is a drawing of which this holds
 abbrev pub IsDrawing : (Meaning → Type 0) → Made → Type 0
@@ -37,21 +37,21 @@ Means m thing = IsDrawing (λ n. n ≡ m) thing
 -- the two names stand for two drawings, and the thing is their join
 pub record Joins (old : Things) (left right : List ℕ) (thing : Made) : Type 0 where
   pub apart : left ≡ right → ⊥
-  pub left_drawing : AnyDrawing
+  pub left_drawing : Pile
   pub left_stands : Stands old left left_drawing
-  pub right_drawing : AnyDrawing
+  pub right_drawing : Pile
   pub right_stands : Stands old right right_drawing
   pub joins : Means (joined (meaning_of left_drawing) (meaning_of right_drawing)) thing
 
 -- the name stands for a drawing, and the thing is what is made of it
 pub record Changes (old : Things) (below : List ℕ) (change : Meaning → Meaning) (thing : Made) : Type 0 where
-  pub drawing : AnyDrawing
+  pub drawing : Pile
   pub stands : Stands old below drawing
   pub changed : Means (change (meaning_of drawing)) thing
 
 -- the name stands for a drawing, and the thing is the unit that sealing makes of it
 pub record Seals (old : Things) (name : List ℕ) (number : ℕ) (thing : Made) : Type 0 where
-  pub drawing : AnyDrawing
+  pub drawing : Pile
   pub stands : Stands old name drawing
   pub sealed : IsUnit (λ u. unit_of u ≡ seal (meaning_of drawing) number) (Some thing)
 

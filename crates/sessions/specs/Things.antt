@@ -6,13 +6,13 @@ use Rattle.any_drawing.specs.Meaning.{any_meaning}
 use Rattle.model.specs.Meanings.{Meaning}
 use Rattle.unit.specs.Models.{model_of}
 use Rattle.units.specs.Units.{UnitModel}
-use Rattle.any_drawing.specs.declared.AnyDrawing.{AnyDrawing}
 use Rattle.sessions.specs.declared.made.Made.{Made}
 use Rattle.sessions.specs.declared.made.Made.TheVariants.{Drawing, SealedUnit}
 use Rattle.sessions.specs.declared.sealed.Sealed.{Sealed}
 use Rattle.sessions.specs.declared.things.Things.{Things}
+use Rattle.any_drawing.specs.Piles.{Pile}
 
-abbrev pub meaning_of : AnyDrawing → Meaning
+abbrev pub meaning_of : Pile → Meaning
 meaning_of d = any_meaning d
 
 abbrev pub unit_of : Sealed → UnitModel
@@ -39,7 +39,7 @@ abbrev pub Takes : Things → Things → List ℕ → Type 0
 Takes old new name = (w : List ℕ) → meant new w ≡ cond (same_text w name) None (meant old w)
 
 -- the name stands for this drawing
-abbrev pub Stands : Things → List ℕ → AnyDrawing → Type 0
+abbrev pub Stands : Things → List ℕ → Pile → Type 0
 Stands t name d = meant t name ≡ Some (Drawing d)
 
 -- the thing is a unit of which this holds
@@ -62,7 +62,7 @@ abbrev pub Gone : Things → Things → List (List ℕ) → Type 0
 Gone old new used = (w : List ℕ) → meant new w ≡ cond (among w used) None (meant old w)
 
 -- two names that stood for two drawings are used up
-pub record TakenTwo (old new : Things) (left right : List ℕ) (l r : AnyDrawing) : Type 0 where
+pub record TakenTwo (old new : Things) (left right : List ℕ) (l r : Pile) : Type 0 where
   pub apart : left ≡ right → ⊥
   pub left_stood : Stands old left l
   pub right_stood : Stands old right r

@@ -1,6 +1,6 @@
 // What a name of a script can stand for.
 use crate::sealed::Sealed;
-use any_drawing::{AnyDrawing, Tree};
+use any_drawing::{AnyDrawing, Node};
 use drawing::Outline;
 use model::{Question, State};
 use std::alloc::{AllocError, Global};
@@ -15,12 +15,12 @@ pub enum Made {
 
 // What the drawing is, in a word or two.
 fn what(drawing: &AnyDrawing) -> &'static str {
-    match drawing.tree() {
-        Tree::Table(_) => "table",
-        Tree::Gates(_) => "gate list",
-        Tree::Join { .. } => "join",
-        Tree::Rename { .. } => "renamed drawing",
-        Tree::Hide { .. } => "drawing with a hidden name",
+    match drawing.node() {
+        Node::Table(_) => "table",
+        Node::Gates(_) => "gate list",
+        Node::Join { .. } => "join",
+        Node::Rename { .. } => "renamed drawing",
+        Node::Hide { .. } => "drawing with a hidden name",
     }
 }
 

@@ -155,7 +155,8 @@ fn follower(heap: Global, k: u32) -> Result<String, AllocError>
     format!(in heap; "{head}{choices}{choices}")
 }
 
-// Fourteen atoms that await each other round one barrier, joined one after the other.
+// Fourteen atoms that await each other round one barrier, joined one after the other. This test and the next run like lines, which
+// are what they test: a function over names, parts and answers would take as many lines to call.
 #[test]
 fn a_crowded_junction(rt: HostRuntime) -> Result<(), Fail> {
     let heap = rt.alloc();

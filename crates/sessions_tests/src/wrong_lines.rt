@@ -1,6 +1,6 @@
 // Lines that are refused, one of every sort.
 use commands::{Mistake, Vocabulary};
-use script_lines::{WRONG_LINES, check_not_text, check_refused, mistake};
+use script_lines::{WRONG_LINES, check_alters_nothing, check_not_text, check_refused, mistake};
 use sessions::Session;
 use std::test::Fail;
 
@@ -40,14 +40,12 @@ fn every_sort_of_wrong_line(rt: HostRuntime) -> Result<(), Fail> {
 
 // What a name stood for it stands for still, after a line that would have replaced it.
 #[test]
-fn a_wrong_line_alters_nothing(rt: HostRuntime) {
+fn a_wrong_line_alters_nothing(rt: HostRuntime) -> Result<(), Fail> {
     let heap = rt.alloc();
     let mut session = Session::new(heap, Vocabulary::Everything);
-    assert!(rt; mistake(heap, &mut session, b"gates a -").is_none());
-    assert!(rt; mistake(heap, &mut session, b"gates a 0").is_some());
-    assert!(rt; mistake(heap, &mut session, b"new a").is_some());
-    assert!(rt; mistake(heap, &mut session, b"join a a b").is_some());
-    assert!(rt; mistake(heap, &mut session, b"seal a a x").is_some());
+    let wrong = ["gates a 0", "new a", "join a a b", "seal a a x"];
+    check_alters_nothing(heap, &mut session, wrong.as_slice())?;
     assert!(rt; mistake(heap, &mut session, b"rename a a 0 1").is_none());
     assert!(rt; mistake(heap, &mut session, b"outline a").is_none());
+    Ok(())
 }

@@ -12,6 +12,11 @@ unfolding some
 some_same p q zero h = refl
 some_same p q (suc n) h = ap₂ ◌||◌ (h n (omega arith)) (some_same p q n (λ k l. h k (omega arith)))
 
+-- one number more that does not pass
+pub some_past : (p : ℕ → Bool) (i : ℕ) → p i ≡ false → some p (i + 1) ≡ some p i
+unfolding some
+some_past p i h = rw add-one (ap (λ b. b || some p i) h)
+
 module _ {X : Type 0} where
   pub other_assoc : (a b c : Option X) → option_or (option_or a b) c ≡ option_or a (option_or b c)
   other_assoc None b c = refl

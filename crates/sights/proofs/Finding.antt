@@ -10,12 +10,12 @@ use Rattle.model.specs.declared.Round.{Round}
 use Rattle.model.specs.declared.Round.TheVariants.{Initial, Update}
 use Rattle.theory.specs.Members.{Member}
 use Rattle.units.specs.Counting.{any}
-use Rattle.units.specs.Sealing.{sights, in_some_round, within}
+use Rattle.units.specs.Sealing.{sights, in_some_round, within, nothing_open, gives_outside}
 use Rattle.sights.specs.Seen.{open_at, wrong_name, wrong_choice, looked}
 use Rattle.sights.specs.Sights.{test_of, sight_at, finds, hit_at, first_in_round, first_sight, SightTold}
 use Rattle.sights.specs.declared.look.Look.{Look}
 use Rattle.sights.specs.declared.look.Test.{Test}
-use Rattle.sights.specs.declared.look.Test.TheVariants.{NothingOpen, GivesOutside}
+use Rattle.sights.specs.declared.look.Test.TheVariants.{NothingOpen, GivesOutside, Fails}
 use Rattle.sights.specs.declared.sight.Sight.{Sight}
 use Rattle.sights.proofs.Bounds.{some_same}
 
@@ -36,14 +36,21 @@ module _ (m : Meaning) (r : Round) (a : ℕ) (l : Look) (known : Known m r a l) 
       ap₂ (λ x y. x && not (within y (m.acts.gives r l.atom k n (value p.0) (value p.1)))) (known.controls_are n) (known.tops_are n h)
       ∙ ap (λ x. m.outline.controls a n && not (within (m.outline.top n) (m.acts.gives r x k n (value p.0) (value p.1)))) known.atom_is
 
-  -- so what is looked for is what sealing judges
-  pub looked_same : (t : Test) (p : List ℕ × List ℕ) → looked t m.acts l (sight_at r p) ≡ test_of t m r a p
-  looked_same NothingOpen p =
+  same_nothing : (p : List ℕ × List ℕ) → looked NothingOpen m.acts l (sight_at r p) ≡ nothing_open m r a p
+  same_nothing p =
       ap not (ap (some (open_at m.acts l (sight_at r p))) known.choices_are ∙ some_same (open_at m.acts l (sight_at r p)) (λ k. m.acts.opens r a k (value p.0) (value p.1)) (m.acts.choices r a) (λ k _. same_open p k))
-  looked_same GivesOutside p =
+
+  same_outside : (p : List ℕ × List ℕ) → looked GivesOutside m.acts l (sight_at r p) ≡ gives_outside m r a p
+  same_outside p =
       ap (some (wrong_choice m.acts l (sight_at r p))) known.choices_are
       ∙ some_same (wrong_choice m.acts l (sight_at r p)) (λ k. m.acts.opens r a k (value p.0) (value p.1) && some (λ n. m.outline.controls a n && not (within (m.outline.top n) (m.acts.gives r a k n (value p.0) (value p.1)))) 32) (m.acts.choices r a)
       (λ k _. ap₂ ◌&&◌ (same_open p k) (some_same (wrong_name m.acts l (sight_at r p) k) (λ n. m.outline.controls a n && not (within (m.outline.top n) (m.acts.gives r a k n (value p.0) (value p.1)))) 32 (λ n h. same_name p k n h)))
+
+  -- so what is looked for is what sealing judges
+  pub looked_same : (t : Test) (p : List ℕ × List ℕ) → looked t m.acts l (sight_at r p) ≡ test_of t m r a p
+  looked_same NothingOpen p = same_nothing p
+  looked_same GivesOutside p = same_outside p
+  looked_same Fails p = ap₂ ◌||◌ (same_nothing p) (same_outside p)
 
 some_or : {X : Type 0} (a b : Option X) → is_some (option_or a b) ≡ (is_some a || is_some b)
 some_or None b = refl

@@ -1,5 +1,5 @@
 -- Going through the values that an atom sees, place by place. Assumes nothing.
-use Rattle.std.specs.Prelude.{◌≡◌, ℕ, zero, suc, ◌+◌, ◌-◌, ◌<◌, ◌≤◌, Bool, cond, not, ◌&&◌, List, Some, None, Option, nat_lt, slice_set}
+use Rattle.std.specs.Prelude.{◌≡◌, ℕ, zero, suc, ◌+◌, ◌-◌, ◌<◌, ◌≤◌, Bool, cond, not, ◌&&◌, ◌||◌, List, Some, None, Option, nat_lt, slice_set}
 use Rattle.std.specs.Option.{option_or}
 use Rattle.model.specs.Meanings.{OutlineFacts, ChoiceFacts}
 use Rattle.model.specs.Sets.{has}
@@ -9,7 +9,7 @@ use Rattle.model.specs.declared.Round.{Round}
 use Rattle.units.specs.Sealing.{within, old_names}
 use Rattle.sights.specs.declared.look.Look.{Look}
 use Rattle.sights.specs.declared.look.Test.{Test}
-use Rattle.sights.specs.declared.look.Test.TheVariants.{NothingOpen, GivesOutside}
+use Rattle.sights.specs.declared.look.Test.TheVariants.{NothingOpen, GivesOutside, Fails}
 use Rattle.sights.specs.declared.sight.Sight.{Sight}
 
 -- the choice is open
@@ -28,6 +28,7 @@ wrong_choice c l s k = open_at c l s k && some (wrong_name c l s k) 32
 abbrev pub looked : Test → ChoiceFacts → Look → Sight → Bool
 looked NothingOpen c l s = not (some (open_at c l s) l.choices)
 looked GivesOutside c l s = some (wrong_choice c l s) l.choices
+looked Fails c l s = not (some (open_at c l s) l.choices) || some (wrong_choice c l s) l.choices
 
 -- the values, if the test passes at them
 abbrev pub hit : (Sight → Bool) → Sight → Option Sight
@@ -69,6 +70,16 @@ fills test top place (suc left) s = first_below (λ v. fills test top (place + 1
 -- with this value at the place
 abbrev pub fills_with : (Sight → Option Sight) → (ℕ → ℕ) → ℕ → ℕ → Sight → ℕ → Option Sight
 fills_with test top place left s v = fills test top (place + 1) left (put place s v)
+
+-- at the places from this one on, below the end, 0 is the largest value
+abbrev pub Narrow : (ℕ → ℕ) → ℕ → ℕ → Type 0
+Narrow top place end = (k : ℕ) → place ≤ k → k < end → top k ≡ 0
+
+-- the first place from this one on that has more values than 0
+pub record IsNext (top : ℕ → ℕ) (place next : ℕ) : Type 0 where
+  pub from : place ≤ next
+  pub inside : next < 64
+  pub narrow : Narrow top place next
 
 -- from this place on all values are 0
 abbrev pub BlankFrom : ℕ → Sight → Type 0

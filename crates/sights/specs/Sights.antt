@@ -1,5 +1,6 @@
--- Values at which an atom has no open choice, or at which an open one gives a value out of range. Assumes nothing.
-use Rattle.std.specs.Prelude.{◌≡◌, ℕ, Bool, true, false, cond, List, [], ◌∷◌, Some, None, Option}
+-- Values at which an atom has no open choice, at which an open one gives a value out of range, or at which it fails in either way.
+-- Assumes nothing.
+use Rattle.std.specs.Prelude.{◌≡◌, ℕ, Bool, true, false, cond, ◌||◌, List, [], ◌∷◌, Some, None, Option}
 use Rattle.std.specs.Option.{option_or}
 use Rattle.model.specs.Meanings.{Meaning}
 use Rattle.model.specs.declared.Round.{Round}
@@ -7,13 +8,18 @@ use Rattle.model.specs.declared.Round.TheVariants.{Initial, Update}
 use Rattle.theory.specs.Members.{Member}
 use Rattle.units.specs.Sealing.{sights, nothing_open, gives_outside}
 use Rattle.sights.specs.declared.look.Test.{Test}
-use Rattle.sights.specs.declared.look.Test.TheVariants.{NothingOpen, GivesOutside}
+use Rattle.sights.specs.declared.look.Test.TheVariants.{NothingOpen, GivesOutside, Fails}
 use Rattle.sights.specs.declared.sight.Sight.{Sight}
+
+-- the atom fails in either way: no choice is open, or an open one gives a value out of range
+abbrev pub fails_at : Meaning → Round → ℕ → List ℕ × List ℕ → Bool
+fails_at m r a seen = nothing_open m r a seen || gives_outside m r a seen
 
 -- what is looked for
 abbrev pub test_of : Test → Meaning → Round → ℕ → List ℕ × List ℕ → Bool
 test_of NothingOpen = nothing_open
 test_of GivesOutside = gives_outside
+test_of Fails = fails_at
 
 abbrev pub sight_at : Round → List ℕ × List ℕ → Sight
 sight_at r p = record { round = r; old = p.0; new = p.1 }

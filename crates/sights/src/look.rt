@@ -1,12 +1,14 @@
 // Which atom is looked at, what for, and what has to be known of it.
 use model::{Names, State};
 
-// What is looked for: values at which no choice is open, or at which an open one gives a value out of range. The two are named,
-// no closures: definitions and promises tell them apart by name.
+// What is looked for: values at which no choice is open, those at which an open one gives a value out of range, or those at which
+// the atom fails in either way. The three are named, no closures: each clause that names a test would have to say of a closure
+// what it answers, of which drawing, round and atom, at all values.
 #[derive(Clone, Copy, PartialEq, Eq, Debug)]
 pub enum Test {
     NothingOpen,
     GivesOutside,
+    Fails,
 }
 
 // The atom's number, how many choices it has in the round, the names that it controls, the top of each name, and the largest

@@ -1,7 +1,9 @@
-// The two tests at given old and new values, and all values in range gone through for the first at which one passes.
+// The three tests at given old and new values, and all values in range gone through for the first at which one passes.
 ghost use Rattle.model.specs.States.{value};
-ghost use Rattle.sights.specs.Seen.{open_at, wrong_name, wrong_choice, looked, hit, fills, BlankFrom};
-ghost use Rattle.std.specs.Prelude.{◌≡◌, ℕ, not, ◌-◌, ◌<◌, ◌≤◌};
+ghost use Rattle.model.specs.Tests.{some};
+ghost use Rattle.sights.specs.declared.look.Test.TheVariants.{Fails};
+ghost use Rattle.sights.specs.Seen.{open_at, wrong_name, wrong_choice, looked, hit, fills, BlankFrom, IsNext, Narrow};
+ghost use Rattle.std.specs.Prelude.{◌≡◌, not, ◌-◌, ◌<◌, ◌≤◌, MatchOption};
 ghost use Rattle.units.specs.Sealing.{within};
 
 use crate::look::{Look, Test};
@@ -47,10 +49,34 @@ impl<D: Drawing> Search<'_, D> {
             )
     }
 
+    // Does the choice give some name a value out of range?
+    fn gives_outside(&self, sight: &Sight, choice: u8) -> bool
+        ensures { result ≡ some (wrong_name (D.Drawing.meaning self.now.drawing.now).acts self.now.look sight.now choice) 32 }
+    {
+        any_below(32, |name| self.gives_wrong(sight, choice, name))
+    }
+
     fn is_wrong(&self, sight: &Sight, choice: u8) -> bool
         ensures { result ≡ wrong_choice (D.Drawing.meaning self.now.drawing.now).acts self.now.look sight.now choice }
     {
-        self.is_open(sight, choice) && any_below(32, |name| self.gives_wrong(sight, choice, name))
+        self.is_open(sight, choice) && self.gives_outside(sight, choice)
+    }
+
+    // Is no choice open, or gives an open one a value out of range? One loop for both, since it asks of each choice only once
+    // whether it is open.
+    fn fails(&self, sight: &Sight) -> bool
+        ensures { result ≡ looked Fails (D.Drawing.meaning self.now.drawing.now).acts self.now.look sight.now }
+    {
+        let mut stuck = true;
+        for choice in 0..self.look.choices {
+            if self.is_open(sight, choice) {
+                if self.gives_outside(sight, choice) {
+                    return true;
+                }
+                stuck = false;
+            }
+        }
+        stuck
     }
 
     // Is what is looked for so at these values?
@@ -61,19 +87,16 @@ impl<D: Drawing> Search<'_, D> {
         match self.look.test {
             Test::NothingOpen => !any_below(choices, |choice| self.is_open(sight, choice)),
             Test::GivesOutside => any_below(choices, |choice| self.is_wrong(sight, choice)),
+            Test::Fails => self.fails(sight),
         }
     }
 
-    // The first place from this one on that has more values than 0, or 64.
-    fn next_place(&self, place: u8) -> u8
+    // The first place from this one on that has more values than 0.
+    fn next_place(&self, place: u8) -> Option<u8>
         requires { place ≤ 64 }
-        ensures from { place ≤ result }
-        ensures to { result ≤ 64 }
-        ensures narrow { (k : ℕ) → place ≤ k → k < result → value self.now.look.ranges k ≡ 0 }
+        ensures { MatchOption result (Narrow (value self.now.look.ranges) place 64) (IsNext (value self.now.look.ranges) place) }
     {
-        (place..64)
-            .find(|next| self.look.ranges[*next as usize] != 0)
-            .unwrap_or(64)
+        (place..64).find(|next| self.look.ranges[*next as usize] != 0)
     }
 
     // The first values at the places from this one on, where all are 0 so far. Places that have no other value are passed over.
@@ -84,10 +107,9 @@ impl<D: Drawing> Search<'_, D> {
         requires blank { BlankFrom place sight }
         ensures { result ≡ fills (hit (looked self.now.look.test (D.Drawing.meaning self.now.drawing.now).acts self.now.look)) (value self.now.look.ranges) place (64 - place) sight }
     {
-        let next = self.next_place(place);
-        if next == 64 {
+        let Some(next) = self.next_place(place) else {
             return self.passes(&sight).then_some(sight);
-        }
+        };
         for value in 0..=self.look.ranges[next as usize] {
             if let Some(found) = self.first_from(next + 1, sight.with(next, value)) {
                 return Some(found);

@@ -1,8 +1,7 @@
 -- What a table keeps is what it was opened from. Assumes nothing.
-use Rattle.std.proofs.Common.{◌≡◌, ℕ, ◌<◌, ◌≤◌, ◌⊎◌, List, [], length, replicate, Ok, Err, Result, refl, sym, ap, ◌∙◌, subst, inl, inr, arith}
+use Rattle.std.proofs.Common.{◌≡◌, ℕ, ◌<◌, ◌≤◌, ◌⊎◌, List, length, replicate, Ok, Err, Result, sym, ap, ◌∙◌, subst, inl, inr, arith}
 use Rattle.std.proofs.lemmas.List.{length-replicate}
 use Rattle.std.proofs.lemmas.Bool.{cases_lt}
-use Rattle.std.specs.Result.{ForErr}
 use Rattle.model.specs.declared.Fault.{Fault}
 use Rattle.model.specs.declared.row.Row.{Row}
 use Rattle.language.proofs.TableFronts.{faults_are_the_first}
@@ -10,11 +9,6 @@ use Rattle.language.specs.Tables.{TableSyntax, opened, refused, fault_of, table_
 use Rattle.layout.specs.Read.{Opens, Read}
 use Rattle.layout.specs.declared.parts.Layout.{Layout}
 use Rattle.table.specs.Contents.{Copied, held}
-
--- where there are too many, none are kept
-pub none_kept : (kept : Result (Row ℕ 4096) ℕ) (size : ℕ) → kept ≡ Err size → ForErr kept (λ n. 4096 < n) → length (held kept) ≤ 4096 → [] ≡ held kept
-none_kept (Ok row) size e many h = cc
-none_kept (Err n) size e many h = absurd (omega (arith, length-replicate {A = ℕ} n 0, many n refl))
 
 pub opened_short : (bs : List ℕ) (t : TableSyntax) → table_opened bs ≡ opened t → length bs ≤ 4096
 opened_short bs t e = go (cases_lt 4096 (length bs))

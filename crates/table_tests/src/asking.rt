@@ -1,16 +1,15 @@
 // Questions that the tests ask of a table.
 use drawing::{Drawing, Outline};
-use model::{Fault, Kind, Round, State};
-use samples::is_just;
+use model::{Fault, Kind};
+use samples::{Moment, has_sets, opens_just};
 use std::process::Abort;
 use table::Table;
 
-// Does opening these bytes tell this number and this place, 0 for no fault?
-pub fn check_fault(rt: &impl Abort, bytes: &[u8], number: u8, place: u16) {
-    let expected = (number != 0).then(|| Fault::own(number, place));
+// Is this what is told of these bytes when they are opened?
+pub fn check_fault(rt: &impl Abort, bytes: &[u8], fault: Option<Fault>) {
     assert_eq!(rt;
         Table::open(bytes).fault(),
-        expected,
+        fault,
         "{} bytes: {bytes:?}",
         bytes.len()
     );
@@ -18,13 +17,7 @@ pub fn check_fault(rt: &impl Abort, bytes: &[u8], number: u8, place: u16) {
 
 // Are these the atom's sets, controlled, read and awaited?
 pub fn check_sets(rt: &impl Abort, table: &Table, atom: u8, sets: [&[u8]; 3]) {
-    let [controlled, read, awaited] = sets;
-    assert!(rt;
-        is_just(table.controls(atom), controlled)
-            && is_just(table.reads(atom), read)
-            && is_just(table.awaits(atom), awaited),
-        "the sets of atom {atom}"
-    );
+    assert!(rt; has_sets(table, atom, sets), "the sets of atom {atom}");
 }
 
 // Is this the name's kind and top?
@@ -36,20 +29,12 @@ pub fn check_variable(rt: &impl Abort, table: &Table, name: u8, kind: Option<Kin
     );
 }
 
-// A round, and the old and the new values that a choice is asked at.
-#[derive(Clone, Copy)]
-pub struct Moment(pub Round, pub State, pub State);
-
 // Are these choices of the atom open, and no others?
 pub fn check_open(rt: &impl Abort, table: &Table, atom: u8, moment: Moment, open: &[u8]) {
-    let Moment(round, old, new) = moment;
-    for choice in 0..=255u8 {
-        assert_eq!(rt;
-            table.is_open(round, atom, choice, old, new),
-            open.contains(&choice),
-            "choice {choice} of {round:?}"
-        );
-    }
+    assert!(rt;
+        opens_just(table, atom, moment, open),
+        "{moment:?}: not {open:?} of atom {atom}"
+    );
 }
 
 // Does the choice of the only atom give these numbers to these names?

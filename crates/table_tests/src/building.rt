@@ -1,6 +1,7 @@
 // Long expressions and tables, put together from parts.
 use samples::push_sum;
 use std::alloc::{AllocError, Global};
+use std::iter::repeat_n;
 use std::test::Fail;
 
 // 21 times 255, in 62 bytes.
@@ -37,9 +38,7 @@ pub struct LastGuard {
 
 fn push_last_guard(bytes: &mut Vec<u8>, last: LastGuard) -> Result<(), AllocError> {
     bytes.push(last.size)?;
-    for _ in 0..last.negations {
-        bytes.push(18)?;
-    }
+    bytes.extend(repeat_n(18, usize::from(last.negations)))?;
     bytes.push(17)?;
     push_sum(bytes, 2)?;
     push_sum(bytes, last.times)

@@ -1,9 +1,9 @@
 // What the choices of a table do.
-use crate::asking::{Moment, check_fault, check_gives, check_open, check_sets, check_variable};
+use crate::asking::{check_fault, check_gives, check_open, check_sets, check_variable};
 use crate::building::{push_highest, push_longest_truth, push_lowest};
 use drawing::{Drawing, Outline};
-use model::{Kind, Round};
-use samples::TOGGLE;
+use model::{Fault, Kind, Round};
+use samples::{Moment, TOGGLE};
 use std::test::Fail;
 use table::Table;
 
@@ -127,7 +127,7 @@ fn read_and_awaited(rt: HostRuntime) {
         &[(0, -1)],
     );
     bytes[29] = 1;
-    check_fault(&rt, &bytes, 5, 30);
+    check_fault(&rt, &bytes, Some(Fault::own(5, 30)));
 }
 
 #[test]
@@ -174,6 +174,6 @@ fn deepest_and_longest(rt: HostRuntime) -> Result<(), Fail> {
         1, 0, 1, 255, 1, 0, 0, 0, 1, 0, 0, 0, 0, 0, 0, 0, 0, 1, 1, 9, 18, 18, 18, 18, 18, 18, 18,
         18, 21,
     ];
-    check_fault(&rt, &ninth, 5, 28);
+    check_fault(&rt, &ninth, Some(Fault::own(5, 28)));
     Ok(())
 }

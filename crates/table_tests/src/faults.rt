@@ -1,33 +1,38 @@
 // What opening a table finds wrong, and where.
 use crate::asking::check_fault;
+use model::Fault;
 use samples::TOGGLE;
 use std::test::Fail;
 
 #[test]
 fn earliest_faults(rt: HostRuntime) {
-    let cases: [(&[u8], u8, u16); 9] = [
-        (&[0, 0], 0, 0),
-        (&[], 2, 0),
-        (&[33], 3, 0),
-        (&[0, 17], 4, 1),
-        (&[0, 16], 2, 2),
-        (&[0, 0, 9], 6, 2),
+    let cases: [(&[u8], Fault); 8] = [
+        (&[], Fault::own(2, 0)),
+        (&[33], Fault::own(3, 0)),
+        (&[0, 17], Fault::own(4, 1)),
+        (&[0, 16], Fault::own(2, 2)),
+        (&[0, 0, 9], Fault::own(6, 2)),
         // judged before a later byte is missed
-        (&[1, 32], 3, 1),
-        (&[1, 0, 3], 3, 2),
-        (&[1, 0, 0, 0], 3, 3),
+        (&[1, 32], Fault::own(3, 1)),
+        (&[1, 0, 3], Fault::own(3, 2)),
+        (&[1, 0, 0, 0], Fault::own(3, 3)),
     ];
-    for (bytes, number, place) in cases {
-        check_fault(&rt, bytes, number, place);
+    check_fault(&rt, &[0, 0], None);
+    for (bytes, fault) in cases {
+        check_fault(&rt, bytes, Some(fault));
     }
 }
 
 #[test]
 fn toggle_cut_short(rt: HostRuntime) {
     for size in 0..32u8 {
-        check_fault(&rt, &TOGGLE[..size as usize], 2, u16::from(size));
+        check_fault(
+            &rt,
+            &TOGGLE[..size as usize],
+            Some(Fault::own(2, u16::from(size))),
+        );
     }
-    check_fault(&rt, &TOGGLE, 0, 0);
+    check_fault(&rt, &TOGGLE, None);
 }
 
 #[test]
@@ -36,7 +41,7 @@ fn toggle_with_more(rt: HostRuntime) -> Result<(), Fail> {
         let mut longer = Vec::new(rt.alloc());
         longer.extend_from_slice(&TOGGLE)?;
         longer.push(byte)?;
-        check_fault(&rt, longer.as_slice(), 6, 32);
+        check_fault(&rt, longer.as_slice(), Some(Fault::own(6, 32)));
     }
     Ok(())
 }
@@ -44,7 +49,8 @@ fn toggle_with_more(rt: HostRuntime) -> Result<(), Fail> {
 // What each byte of the toggle is changed to.
 const CHANGES: [u8; 6] = [0, 1, 2, 3, 21, 65];
 
-// The number and the place of the fault, both 0 for none, for each byte and each change.
+// The number and the place of the fault, both 0 for none, for each byte and each change. Pairs of numbers, since six faults would
+// not stand on one line.
 const FOUND: [[(u8, u16); 6]; 32] = [
     [(6, 2), (0, 0), (3, 6), (3, 6), (3, 6), (3, 0)],
     [(0, 0), (4, 5), (4, 5), (4, 5), (4, 5), (3, 1)],
@@ -88,7 +94,8 @@ fn toggle_changed(rt: HostRuntime) {
             if let Some(byte) = bytes.get_mut(place) {
                 *byte = *change;
             }
-            check_fault(&rt, &bytes, *number, *at);
+            let fault = (*number != 0).then(|| Fault::own(*number, *at));
+            check_fault(&rt, &bytes, fault);
         }
     }
 }

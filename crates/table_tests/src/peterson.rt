@@ -1,8 +1,9 @@
 // Two processes that take turns in a critical section. Names 0 and 1 are the first one's counter (0 outside, 1 requesting, 2
 // inside) and flag, 2 and 3 the second one's. In a round a process goes on or sleeps, by the old values alone.
-use crate::asking::{Moment, check_fault, check_gives, check_open, check_sets, check_variable};
+use crate::asking::{check_fault, check_gives, check_open, check_sets, check_variable};
 use drawing::{Drawing, Outline};
-use model::{Kind, Round, State};
+use model::{Fault, Kind, Round, State};
+use samples::Moment;
 use std::process::Abort;
 use table::Table;
 
@@ -61,7 +62,7 @@ fn opened(rt: HostRuntime) {
     check_process(&rt, &second, Kind::External, Kind::Interface);
     check_sets(&rt, &first, 0, [&[0, 1], &[0, 1, 2, 3], &[]]);
     check_sets(&rt, &second, 0, [&[2, 3], &[0, 1, 2, 3], &[]]);
-    check_fault(&rt, &FIRST[..100], 2, 100);
+    check_fault(&rt, &FIRST[..100], Some(Fault::own(2, 100)));
 }
 
 // By old state: the open update choices of the first process and of the second.

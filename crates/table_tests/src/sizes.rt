@@ -1,6 +1,7 @@
 // Tables as long as they may be, and faults at the last places that they can have.
 use crate::asking::check_fault;
 use crate::building::{LastGuard, long_table};
+use model::Fault;
 use std::test::Fail;
 
 // The table with this byte at a place, if it has that place.
@@ -32,25 +33,25 @@ const THIRTEEN_SHORTER: LastGuard = LastGuard {
 fn longest_table(rt: HostRuntime) -> Result<(), Fail> {
     let mut bytes = long_table(rt.alloc(), 2, WHOLE)?;
     assert_eq!(rt; bytes.len(), 4096);
-    check_fault(&rt, bytes.as_slice(), 0, 0);
+    check_fault(&rt, bytes.as_slice(), None);
     // the last number needs a byte more than there is
     change(&mut bytes, 4094, 3);
     change(&mut bytes, 4095, 0);
-    check_fault(&rt, bytes.as_slice(), 5, 4096);
+    check_fault(&rt, bytes.as_slice(), Some(Fault::own(5, 4096)));
     // its length says 64, and only 62 bytes are there
     change(&mut bytes, 4033, 64);
-    check_fault(&rt, bytes.as_slice(), 2, 4096);
+    check_fault(&rt, bytes.as_slice(), Some(Fault::own(2, 4096)));
     bytes.push(0)?;
-    check_fault(&rt, bytes.as_slice(), 1, 0);
+    check_fault(&rt, bytes.as_slice(), Some(Fault::own(1, 0)));
     Ok(())
 }
 
 #[test]
 fn left_over_at_the_last_place(rt: HostRuntime) -> Result<(), Fail> {
     let mut bytes = long_table(rt.alloc(), 2, ONE_SHORTER)?;
-    check_fault(&rt, bytes.as_slice(), 0, 0);
+    check_fault(&rt, bytes.as_slice(), None);
     bytes.push(0)?;
-    check_fault(&rt, bytes.as_slice(), 6, 4095);
+    check_fault(&rt, bytes.as_slice(), Some(Fault::own(6, 4095)));
     Ok(())
 }
 
@@ -58,7 +59,7 @@ fn left_over_at_the_last_place(rt: HostRuntime) -> Result<(), Fail> {
 fn wrong_count_at_the_last_place(rt: HostRuntime) -> Result<(), Fail> {
     let mut bytes = long_table(rt.alloc(), 3, THIRTEEN_SHORTER)?;
     bytes.extend_from_slice(&[0, 0, 0, 1, 0, 0, 0, 0, 0, 0, 0, 0, 9])?;
-    check_fault(&rt, bytes.as_slice(), 4, 4095);
+    check_fault(&rt, bytes.as_slice(), Some(Fault::own(4, 4095)));
     Ok(())
 }
 
@@ -70,8 +71,8 @@ fn last_variable(rt: HostRuntime) -> Result<(), Fail> {
         bytes.extend_from_slice(&[name, 1, 1])?;
     }
     bytes.push(0)?;
-    check_fault(&rt, bytes.as_slice(), 0, 0);
+    check_fault(&rt, bytes.as_slice(), None);
     change(&mut bytes, 96, 0);
-    check_fault(&rt, bytes.as_slice(), 3, 96);
+    check_fault(&rt, bytes.as_slice(), Some(Fault::own(3, 96)));
     Ok(())
 }

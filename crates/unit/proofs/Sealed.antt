@@ -10,7 +10,7 @@ use Rattle.units.specs.Units.{verdict_with, verdict_of, seal}
 use Rattle.units.proofs.Evidence.{else_parts}
 use Rattle.reactive.proofs.Fit.{passed, fit_exactly}
 use Rattle.reactive.proofs.Rounds.{fit_initial, fit_rounds}
-use Rattle.order.specs.Orders.{AtomsInOrder, NoneCircular}
+use Rattle.order.specs.Orders.{AtomsInOrder, NoneCircular, ZerosFrom}
 use Rattle.unit.specs.Kept.{OrderKept, WholeUnit}
 use Rattle.unit.specs.Models.{claim_of, model_of, fresh}
 use Rattle.unit.specs.Promises.{SealedRightly}
@@ -28,8 +28,8 @@ else_none None = refl
 else_none (Some f) = refl
 
 -- the order that is kept of a fit drawing, and of an unfit one
-pub kept_fit : (v : Option Fault) (o : OutlineFacts) (order : List ℕ) → v ≡ None → AtomsInOrder o order → OrderKept v o order
-kept_fit v o order e h = subst (λ w. OrderKept w o order) (sym e) h
+pub kept_fit : (v : Option Fault) (o : OutlineFacts) (order : List ℕ) → v ≡ None → AtomsInOrder o order → ZerosFrom o.atoms order → OrderKept v o order
+kept_fit v o order e h rest = subst (λ w. OrderKept w o order) (sym e) (h, rest)
 
 pub kept_unfit : (v : Option Fault) (o : OutlineFacts) (order : List ℕ) (f : Fault) → v ≡ Some f → order ≡ replicate 16 0 → OrderKept v o order
 kept_unfit v o order f e h = subst (λ w. OrderKept w o order) (sym e) h
@@ -50,7 +50,7 @@ sealed_rightly m c judged ordered =
     let same : c.verdict ≡ verdict m = judged ∙ else_none (verdict m) in
     record {
       fit = (λ e. (fit_exactly m).0 (sym same ∙ e), λ h. same ∙ (fit_exactly m).1 h);
-      ordered = λ e. subst (λ v. OrderKept v m.outline c.order) e ordered;
+      ordered = λ e. (subst (λ v. OrderKept v m.outline c.order) e ordered).0;
       starts = λ e. fit_initial m (sym same ∙ e);
       goes_on = λ e. fit_rounds m (sym same ∙ e);
     }

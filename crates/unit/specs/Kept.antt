@@ -2,15 +2,15 @@
 use Rattle.std.specs.Prelude.{◌≡◌, ℕ, List, replicate, Some, None, Option}
 use Rattle.model.specs.Meanings.{OutlineFacts, Meaning}
 use Rattle.model.specs.declared.Fault.{Fault}
-use Rattle.order.specs.Orders.{AtomsInOrder}
+use Rattle.order.specs.Orders.{AtomsInOrder, ZerosFrom}
 use Rattle.unit.specs.Models.{model_of}
 use Rattle.unit.specs.declared.kept.Core.{Core}
 use Rattle.units.specs.Life.{Came}
 use Rattle.units.specs.Units.{verdict_of}
 
--- the order of the atoms that is kept: on a fit unit each once and after those that it awaits, else zeros
+-- the order of the atoms that is kept: on a fit unit each once and after those that it awaits, and zeros behind them, else zeros
 abbrev pub OrderKept : Option Fault → OutlineFacts → List ℕ → Type 0
-OrderKept None o order = AtomsInOrder o order
+OrderKept None o order = AtomsInOrder o order × ZerosFrom o.atoms order
 OrderKept (Some f) o order = order ≡ replicate 16 0
 
 -- A unit whose drawing means m and that keeps c. The verdict kept is that on the unit's model, the order of the atoms is right, and

@@ -8,8 +8,8 @@ use model::Fault;
 
 // The unit's number, how many rounds were opened, what is wrong with it, its phase and its claims, None where it was joined
 // with more than eight; and the atoms in an order in which each comes after those that it awaits. The order is an array, not a
-// row, since 0 is kept at all its places where the unit is unfit. The verdict is no Result with claims and order in it, since
-// an unfit unit has both too, without claims and with 0 at each place.
+// row, since 0 is kept at all its places where the unit is unfit. The verdict is no Result with claims in it: whether a
+// unit was joined with too many claims is kept whatever else is wrong with it.
 #[derive(Clone, Copy)]
 pub struct Core {
     pub number: u32,

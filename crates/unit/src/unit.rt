@@ -83,7 +83,7 @@ impl<D: Drawing> Unit<D> {
         self.core.verdict
     }
 
-    // The same as number, layer and place, 0 when fit: three numbers, as boot code asks for them.
+    // The same as number, layer and place, 0 when fit: three numbers, since that is what the call `verdict` tells (docs/calls.md).
     pub fn verdict(&self) -> (u8, u8, u16)
         ensures told { result ≡ verdict_told (verdict_of (model_of (D.Drawing.meaning self.now.drawing) self.now.core)) }
         ensures zero { ZeroWhenFit (verdict_of (model_of (D.Drawing.meaning self.now.drawing) self.now.core)) }

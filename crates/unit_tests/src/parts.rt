@@ -3,6 +3,7 @@ ghost use Rattle.std.specs.Prelude.{◌<◌, ◌≤◌, ℕ};
 
 use drawing::Drawing;
 use gates::GateList;
+use model::Fault;
 use samples::inverter;
 use unit::Unit;
 
@@ -45,8 +46,9 @@ pub fn scattered(first: u8) -> GateList {
     inverters(8, |gate| (15, first + 2 * gate))
 }
 
-// Is this the verdict on the drawing, sealed as a unit of this number?
-pub fn seals<D: Drawing + Drop>(drawing: D, number: u8, layer: u8, place: u16) -> bool {
+// Is this what is wrong with the drawing, sealed as a unit of this number, and are its numbers, or zeros, the verdict?
+pub fn seals<D: Drawing + Drop>(drawing: D, fault: Option<Fault>) -> bool {
     let unit = Unit::seal(drawing, 7);
-    unit.verdict() == (number, layer, place) && unit.number() == 7
+    let numbers = fault.map_or((0, 0, 0), |fault| (fault.number, fault.layer, fault.place));
+    unit.fault() == fault && unit.verdict() == numbers && unit.number() == 7
 }

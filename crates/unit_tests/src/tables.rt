@@ -3,7 +3,7 @@ ghost use Rattle.std.specs.Prelude.{◌≤◌};
 
 use crate::parts::seals;
 use fitness::{outside_at, stuck_at};
-use model::Round;
+use model::{Fault, Round};
 use sights::Sight;
 use table::Table;
 
@@ -59,28 +59,49 @@ fn later_gives(value: u8) -> Table {
 
 #[test]
 fn the_width_and_what_is_seen(rt: HostRuntime) {
-    assert!(rt; seals(externals(20, 1), 0, 0, 0), "twenty external bits");
-    assert!(rt; seals(externals(21, 1), 17, 0, 0), "twenty-one");
+    assert!(rt; seals(externals(20, 1), None), "twenty external bits");
     assert!(rt;
-        seals(externals(32, 255), 17, 0, 0),
+        seals(externals(21, 1), Some(Fault::own(17, 0))),
+        "twenty-one"
+    );
+    assert!(rt;
+        seals(externals(32, 255), Some(Fault::own(17, 0))),
         "all names, all values"
     );
-    assert!(rt; seals(many_seen(1, 254), 0, 0, 0), "65,536 values");
-    assert!(rt; seals(many_seen(3, 254), 14, 0, 0), "one name more");
+    assert!(rt; seals(many_seen(1, 254), None), "65,536 values");
+    assert!(rt;
+        seals(many_seen(3, 254), Some(Fault::own(14, 0))),
+        "one name more"
+    );
 }
 
 #[test]
 fn control_and_choices(rt: HostRuntime) {
-    assert!(rt; seals(toggle(1), 0, 0, 0), "the toggle");
-    assert!(rt; seals(toggle(2), 16, 0, 0), "a value out of range");
-    assert!(rt; seals(controlling(8, 32), 0, 0, 0), "each once");
-    assert!(rt; seals(controlling(8, 8), 12, 0, 3), "one twice, one never");
-    assert!(rt; seals(controlling(32, 32), 12, 0, 3), "the lowest name");
-    assert!(rt; seals(open_only_at(0), 15, 0, 0), "no choice at 1");
-    assert!(rt; seals(later_gives(1), 0, 0, 0), "two open choices");
-    assert!(rt; seals(later_gives(2), 16, 0, 0), "the later one goes wrong");
+    assert!(rt; seals(toggle(1), None), "the toggle");
     assert!(rt;
-        seals(Table::open(&[1, 0, 1, 1]), 2, 0, 4),
+        seals(toggle(2), Some(Fault::own(16, 0))),
+        "a value out of range"
+    );
+    assert!(rt; seals(controlling(8, 32), None), "each once");
+    assert!(rt;
+        seals(controlling(8, 8), Some(Fault::own(12, 3))),
+        "one twice, one never"
+    );
+    assert!(rt;
+        seals(controlling(32, 32), Some(Fault::own(12, 3))),
+        "the lowest name"
+    );
+    assert!(rt;
+        seals(open_only_at(0), Some(Fault::own(15, 0))),
+        "no choice at 1"
+    );
+    assert!(rt; seals(later_gives(1), None), "two open choices");
+    assert!(rt;
+        seals(later_gives(2), Some(Fault::own(16, 0))),
+        "the later one goes wrong"
+    );
+    assert!(rt;
+        seals(Table::open(&[1, 0, 1, 1]), Some(Fault::own(2, 4))),
         "a fault of its own"
     );
 }

@@ -1,9 +1,9 @@
 -- What is picked of the numbers below n, against `below` and `mask_below`. Assumes nothing.
-use Rattle.std.proofs.Common.{◌≡◌, ℕ, zero, suc, ◌+◌, ◌*◌, ◌%◌, ◌^◌, ◌<◌, ◌≤◌, Bool, true, false, cond, List, [], ◌∷◌, ◌++◌, Option, Some, None, option_map, filter, filter_map, sum_by, map-id, sym, refl, ap, ◌∙◌, mod-eq_of_lt, one-mul, pow-suc, arith}
+use Rattle.std.proofs.Common.{◌≡◌, ℕ, ℤ, zero, suc, ◌+◌, ◌*◌, ◌%◌, ◌^◌, ◌<◌, ◌≤◌, Bool, true, false, cond, List, [], ◌∷◌, ◌++◌, Option, Some, None, option_map, filter, filter_map, map, sum_by, map-id, sym, refl, ap, ◌∙◌, mod-eq_of_lt, one-mul, pow-suc, arith}
+use Rattle.std.proofs.lemmas.List.{map-append}
 use Rattle.std.proofs.lemmas.List.Elements.{filter-append, filter_map-append}
 use Rattle.std.proofs.lemmas.List.FromFn.{map-range_with_len_more}
 use Rattle.std.proofs.lemmas.List.Sums.{sum_by-append}
-use Rattle.std.specs.Bool.{then_some}
 use Rattle.std.specs.List.{range_with_len, cons_option}
 use lib.Pow.{pow-lt}
 use Rattle.model.specs.Meanings.{OutlineFacts, ChoiceFacts}
@@ -11,7 +11,7 @@ use Rattle.model.specs.States.{value}
 use Rattle.model.specs.declared.Kind.{Kind}
 use Rattle.model.specs.declared.Question.{Question}
 use Rattle.wording.specs.Told.{below, mask_below, variable_of, variable_at, assignment_at}
-use Rattle.wording.specs.declared.ask.Assignment.{Assignment}
+use Rattle.notation.specs.declared.assignment.Assignment.{Assignment}
 use Rattle.wording.specs.declared.facts.Variable.{Variable}
 
 -- one number more
@@ -39,15 +39,23 @@ module _ (o : OutlineFacts) where
   variables_below = picked variable_found (variable_at o) (λ n. one n (o.top n) (o.kind n))
 
 module _ (o : OutlineFacts) (acts : ChoiceFacts) (q : Question (List ℕ)) where
-  abbrev pub assignment_found : ℕ → Option Assignment
-  assignment_found n = then_some (o.controls q.atom n) (record { name = n; value = acts.gives q.round q.atom q.choice n (value q.old) (value q.new) })
+  abbrev pub assigned : ℕ → Assignment ℤ
+  assigned n = record { name = n; value = acts.gives q.round q.atom q.choice n (value q.old) (value q.new) }
 
-  one_if : (b : Bool) (x : Assignment) → cons_option (then_some b x) [] ≡ cond b (x ∷ []) []
-  one_if true x = refl
-  one_if false x = refl
+  one_if : (b : Bool) (n : ℕ) → map assigned (cond b (n ∷ []) []) ≡ cond b (assigned n ∷ []) []
+  one_if true n = refl
+  one_if false n = refl
 
-  pub assignments_below : (n : ℕ) → filter_map assignment_found (range_with_len 0 n) ≡ below (assignment_at o acts q) n
-  assignments_below = picked assignment_found (assignment_at o acts q) (λ n. one_if (o.controls q.atom n) _)
+  -- what is assigned to the numbers below n that pass, where those pass that the atom controls
+  pub assignments_below : (p : ℕ → Bool) → ((n : ℕ) → p n ≡ o.controls q.atom n) → (n : ℕ) → map assigned (filter p (range_with_len 0 n)) ≡ below (assignment_at o acts q) n
+  unfolding below
+  assignments_below p is zero = refl
+  assignments_below p is (suc n) =
+      ap (λ l. map assigned (filter p l)) (up n)
+      ∙ ap (map assigned) (filter-append p (range_with_len 0 n) (n ∷ []))
+      ∙ map-append assigned (filter p (range_with_len 0 n)) _
+      ∙ ap (λ l. l ++ map assigned (cond (p n) (n ∷ []) [])) (assignments_below p is n)
+      ∙ ap (λ l. below (assignment_at o acts q) n ++ l) (one_if (p n) n ∙ ap (λ b. cond b (assigned n ∷ []) []) (is n))
 
 twice : (n : ℕ) → 2 ^ suc n ≡ 2 ^ n + 2 ^ n
 twice n = rw pow-suc (omega arith)

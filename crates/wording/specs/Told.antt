@@ -1,22 +1,28 @@
 -- What is told of a drawing. Assumes nothing.
-use Rattle.std.specs.Prelude.{◌≡◌, ℕ, zero, suc, ◌+◌, ◌^◌, ◌<◌, Bool, cond, List, [], ◌∷◌, ◌++◌, Some, None, vec_items, vec_len, codes, decimal, Option, Vec, slice_index_or}
+use Rattle.std.specs.Prelude.{◌≡◌, ℕ, ℤ, zero, suc, ◌+◌, ◌^◌, ◌<◌, Bool, cond, List, [], ◌∷◌, ◌++◌, map, filter, Some, None, vec_items, vec_len, codes, Option, Vec, slice_index_or}
+use Rattle.std.specs.List.{range_with_len}
 use Rattle.std.specs.declared.alloc.Global.{Global}
+use Rattle.model.specs.Faults.{fault_numbers}
 use Rattle.model.specs.Meanings.{OutlineFacts, ChoiceFacts}
 use Rattle.model.specs.Sets.{has}
 use Rattle.model.specs.States.{value}
 use Rattle.model.specs.declared.Fault.{Fault}
 use Rattle.model.specs.declared.Kind.{Kind}
 use Rattle.model.specs.declared.Round.TheVariants.{Initial, Update}
-use Rattle.wording.specs.declared.ask.Assignment.{Assignment}
+use Rattle.notation.specs.declared.assignment.Assignment.{Assignment}
 use Rattle.model.specs.declared.Question.{Question}
 use Rattle.wording.specs.declared.ask.Reply.{Reply}
 use Rattle.wording.specs.declared.facts.Atom.{Atom}
 use Rattle.wording.specs.declared.facts.Variable.{Variable}
+use Rattle.wording.specs.declared.verdict.Age.{Age}
+use Rattle.wording.specs.declared.verdict.Age.TheVariants.{Old, New}
+use Rattle.wording.specs.declared.verdict.Seen.{Seen}
+use Rattle.sights.specs.declared.sight.Sight.{Sight}
 
 -- the number, layer and place of a fault, or zeros
-abbrev pub fault_numbers : Option Fault → List ℕ
-fault_numbers None = codes "0 0 0"
-fault_numbers (Some f) = decimal f.number ++ (codes " " ++ (decimal f.layer ++ (codes " " ++ decimal f.place)))
+abbrev pub numbers_or_zeros : Option Fault → List ℕ
+numbers_or_zeros None = codes "0 0 0"
+numbers_or_zeros (Some f) = fault_numbers f
 
 -- what f lists at each number below n, in their order
 unfoldable pub below : {X : Type 0} → (ℕ → List X) → ℕ → List X
@@ -50,7 +56,7 @@ pub record DescribesAtoms (o : OutlineFacts) (acts : ChoiceFacts) (atoms : Vec A
   pub each : (a : ℕ) (d : Atom) → a < o.atoms → DescribesAtom o acts a (slice_index_or (vec_items atoms) a d)
 
 -- what the choice gives to a name, if its atom controls the name
-abbrev pub assignment_at : OutlineFacts → ChoiceFacts → Question (List ℕ) → ℕ → List Assignment
+abbrev pub assignment_at : OutlineFacts → ChoiceFacts → Question (List ℕ) → ℕ → List (Assignment ℤ)
 assignment_at o acts q n =
     cond (o.controls q.atom n)
     (record { name = n; value = acts.gives q.round q.atom q.choice n (value q.old) (value q.new) } ∷ []) []
@@ -59,3 +65,11 @@ assignment_at o acts q n =
 pub record Replies (o : OutlineFacts) (acts : ChoiceFacts) (q : Question (List ℕ)) (r : Reply) : Type 0 where
   pub opens : r.«open» ≡ acts.opens q.round q.atom q.choice (value q.old) (value q.new)
   pub given : vec_items r.given ≡ below (assignment_at o acts q) 32
+
+-- the values that a state gives to the names of a set, rising
+abbrev pub values_of : Age → (ℕ → Bool) → List ℕ → List Seen
+values_of age names state = map (λ n. record { age = age; name = n; value = value state n }) (filter names (range_with_len 0 32))
+
+-- the old values of the names that are read, then the new ones of those that are awaited
+abbrev pub seen_values : (ℕ → Bool) → (ℕ → Bool) → Sight → List Seen
+seen_values reads awaits sight = values_of Old reads sight.old ++ values_of New awaits sight.new

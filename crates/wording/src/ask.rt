@@ -4,21 +4,13 @@ ghost use Rattle.std.specs.Prelude.{IfOk};
 
 use drawing::Drawing;
 use model::{Question, State};
-use notation::Listed;
+use notation::{Assignment, Listed};
 use std::alloc::{AllocError, Global};
-use std::fmt;
-
-// What a choice gives to one name.
-#[derive(Clone, Copy)]
-pub struct Assignment {
-    pub name: u8,
-    pub value: i16,
-}
 
 #[derive(Drop)]
 pub struct Reply {
     pub open: bool,
-    pub given: Vec<Assignment>,
+    pub given: Vec<Assignment<i16>>,
 }
 
 // Whether the choice is open, and what it gives to each name that its atom controls, names rising.
@@ -30,21 +22,15 @@ pub fn reply_to<D: Drawing>(
     ensures { IfOk result (λ x. Replies (D.Outline.outline drawing.now) (D.Drawing.meaning drawing.now).acts q.now x) }
 {
     let open = drawing.is_open(q.round, q.atom, q.choice, q.old, q.new);
-    let controls = drawing.controls(q.atom);
-    let given = (0..32u8)
-        .filter_map(|name| controls.has(name).then(|| Assignment {
+    let given = drawing
+        .controls(q.atom)
+        .iter()
+        .map(|name| Assignment {
             name,
             value: drawing.gives(q.round, q.atom, q.choice, name, q.old, q.new),
-        }))
+        })
         .collect(heap)?;
     Ok(Reply { open, given })
-}
-
-// What is given, for people.
-impl fmt::Display for Assignment {
-    fn fmt<W: fmt::Write>(&self, f: &mut fmt::Formatter<W>) -> fmt::Result {
-        write!(f, "name {} := {}", self.name, self.value)
-    }
 }
 
 // What is answered to `ask`.

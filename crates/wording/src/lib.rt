@@ -6,11 +6,11 @@ mod facts;
 mod opening;
 mod outline;
 mod rules;
-mod text;
 mod verdict;
 
-pub use ask::{Assignment, Reply, ask_text, reply_to};
+pub use ask::{Reply, ask_text, reply_to};
 pub use facts::{Atom, Variable, atoms, variables};
+pub use notation::Assignment;
 pub use opening::opening_text;
 pub use outline::{outline_of, outline_text};
 pub use verdict::verdict_text;

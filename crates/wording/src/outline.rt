@@ -5,7 +5,6 @@ ghost use Rattle.std.specs.Prelude.{◌≡◌};
 
 use crate::facts::{Atom, Variable, atoms, variables};
 use crate::rules::Words;
-use crate::text::names_of;
 use any_drawing::AnyDrawing;
 use drawing::Drawing;
 use model::Names;
@@ -17,10 +16,7 @@ use std::fmt;
 fn mask(names: &Names) -> u32
     ensures { result ≡ mask_below (has names.now) 32 }
 {
-    (0..32u8)
-        .filter(|name| names.has(*name))
-        .map(|name| 1u32 << name)
-        .sum()
+    names.iter().map(|name| 1u32 << name).sum()
 }
 
 // The variable as `N:K:T`, for programs.
@@ -62,9 +58,9 @@ fn add_atoms<F: Fn(u8) -> Result<String, AllocError>>(
     requires { F.IsAlwaysCallable choices }
 {
     for (atom, a) in (0..16u8).zip(atoms.iter()) {
-        let controls = names_of(heap, &a.controls)?;
-        let reads = names_of(heap, &a.reads)?;
-        let awaits = names_of(heap, &a.awaits)?;
+        let controls: Vec<u8> = a.controls.iter().collect(heap)?;
+        let reads: Vec<u8> = a.reads.iter().collect(heap)?;
+        let awaits: Vec<u8> = a.awaits.iter().collect(heap)?;
         write!(
             text,
             "\n  atom {atom}: controls {}; reads {}; awaits {}; {} initial and {} update choices",

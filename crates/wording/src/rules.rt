@@ -4,6 +4,7 @@
 ghost use Rattle.wording.specs.Rules.{Numbers};
 
 use model::Fault;
+use std::error::Error;
 use std::fmt;
 
 #[derive(Clone, Copy, PartialEq, Eq, Debug)]
@@ -63,6 +64,14 @@ impl TryFrom<u8> for Rule {
         }
     }
 }
+
+impl fmt::Display for UnknownRule {
+    fn fmt<W: fmt::Write>(&self, f: &mut fmt::Formatter<W>) -> fmt::Result {
+        write!(f, "no rule has the number {}", self.0)
+    }
+}
+
+impl Error for UnknownRule {}
 
 // What is wrong with a byte, a name or an atom, at its place.
 #[derive(Clone, Copy)]

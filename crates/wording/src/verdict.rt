@@ -1,25 +1,64 @@
 // What is answered to `verdict`.
-use crate::opening::fault_numbers;
+ghost use Rattle.model.specs.Sets.{has};
+ghost use Rattle.wording.specs.Told.{seen_values};
+ghost use Rattle.std.specs.Prelude.{◌≡◌, IfOk};
+
+use crate::opening::FaultNumbers;
 use crate::rules::{Rule, Words};
 use drawing::{Drawing, Outline};
 use fitness::{outside_at, stuck_at};
-use model::{Fault, Names, Round, State, value_of};
+use model::{Fault, Names, Round, value_of};
 use notation::Listed;
 use sights::Sight;
 use std::alloc::{AllocError, Global};
+use std::fmt;
 
-// Adds the value of each name of the set, as `old 3 = 1`.
-fn add_values(
-    heap: Global,
-    fields: &mut Vec<String>,
-    word: &str,
-    names: &Names,
-    values: State,
-) -> Result<(), AllocError> {
-    for name in (0..32u8).filter(|name| names.has(*name)) {
-        fields.push(format!(in heap; "{word} {name} = {}", value_of(values, name))?)?;
+// Whether a value is of the state before the round or of the round under way.
+#[derive(Clone, Copy)]
+enum Age {
+    Old,
+    New,
+}
+
+// The value of a name that an atom sees.
+#[derive(Clone, Copy)]
+struct Seen {
+    age: Age,
+    name: u8,
+    value: u8,
+}
+
+// The value as `old 3 = 1`.
+impl fmt::Display for Seen {
+    fn fmt<W: fmt::Write>(&self, f: &mut fmt::Formatter<W>) -> fmt::Result {
+        let word = match self.age {
+            Age::Old => "old",
+            Age::New => "new",
+        };
+        write!(f, "{word} {} = {}", self.name, self.value)
     }
-    Ok(())
+}
+
+// The old value of each name that is read, then the new one of each that is awaited, names rising.
+fn seen_values(
+    heap: Global,
+    reads: &Names,
+    awaits: &Names,
+    sight: &Sight,
+) -> Result<Vec<Seen>, AllocError>
+    ensures { IfOk result (λ v. v.items ≡ seen_values (has reads.now) (has awaits.now) sight.now) }
+{
+    let old = reads.iter().map(|name| Seen {
+        age: Age::Old,
+        name,
+        value: value_of(sight.old, name),
+    });
+    let new = awaits.iter().map(|name| Seen {
+        age: Age::New,
+        name,
+        value: value_of(sight.new, name),
+    });
+    old.chain(new).collect(heap)
 }
 
 // In which round and at which values it happens, of those that the atom sees.
@@ -29,17 +68,13 @@ fn sight_words<D: Outline>(
     atom: u8,
     sight: &Sight,
 ) -> Result<String, AllocError> {
-    let mut fields = Vec::new(heap);
-    let round = match sight.round {
-        Round::Initial => "initialization",
-        Round::Update => {
-            add_values(heap, &mut fields, "old", &drawing.reads(atom), sight.old)?;
-            "update"
-        }
+    let (round, reads) = match sight.round {
+        Round::Initial => ("initialization", Names::none()),
+        Round::Update => ("update", drawing.reads(atom)),
     };
-    add_values(heap, &mut fields, "new", &drawing.awaits(atom), sight.new)?;
+    let seen = seen_values(heap, &reads, &drawing.awaits(atom), sight)?;
     let values = Listed {
-        items: fields.as_slice(),
+        items: seen.as_slice(),
         mark: ", ",
         none: "whatever values",
     };
@@ -48,7 +83,9 @@ fn sight_words<D: Outline>(
 
 // At which values an atom fails, where that is what is wrong.
 fn where_words<D: Drawing>(heap: Global, drawing: &D, fault: Fault) -> Result<String, AllocError> {
-    let atom = fault.place.min(16) as u8;
+    let Ok(atom) = u8::try_from(fault.place) else {
+        return Ok(String::new(heap));
+    };
     let found = match Rule::try_from(fault.number) {
         Ok(Rule::OpenChoice) => stuck_at(drawing, atom),
         Ok(Rule::Range) => outside_at(drawing, atom),
@@ -67,7 +104,7 @@ pub fn verdict_text<D: Drawing>(
     drawing: &D,
     verdict: Option<Fault>,
 ) -> Result<String, AllocError> {
-    let numbers = fault_numbers(heap, verdict)?;
+    let numbers = FaultNumbers(verdict);
     let Some(fault) = verdict else {
         return format!(in heap; "{numbers} -- unit {name} is fit");
     };

@@ -1,37 +1,17 @@
 // What a tree of layers answers. What is wrong with it is known from the top layer on.
-ghost use Rattle.any_drawing.specs.Trees.{tree_meaning, tree_outline};
-ghost use Rattle.model.specs.Sets.{has};
-ghost use Rattle.model.specs.States.{value};
-ghost use Rattle.std.specs.Prelude.{◌≡◌, ℕ};
+ghost use Rattle.any_drawing.specs.Piles.{pile_meaning, pile_outline};
+ghost use Rattle.std.proofs.Common.{rules};
 
 use super::layer::Layer;
-use super::{Tree, WholeTree};
+use super::{AnyDrawing, Node};
 use drawing::{Drawing, Outline};
 use model::{Fault, Kind, Names, Round, State};
 use piles::{joined_kind, told};
 
-impl Tree {
-    // A pile with a fault has layers too, so that this may be asked of any tree.
-    pub(crate) fn layers(&self) -> u8
-        ensures { result ≡ (tree_outline self.now).layers }
-    {
-        match self {
-            Tree::Table(table) => table.layers(),
-            Tree::Gates(list) => list.layers(),
-            Tree::Join { left, right, .. } => {
-                told(1 + u16::from(left.layers()) + u16::from(right.layers()))
-            }
-            Tree::Rename { below, .. } | Tree::Hide { below, .. } => {
-                told(1 + u16::from(below.layers()))
-            }
-        }
-    }
-}
+impl Outline for AnyDrawing {
+    ghost outline = { pile_outline };
 
-impl WholeTree<'_> {
-    pub fn fault(self) -> Option<Fault>
-        ensures { result ≡ (tree_outline self.entry.tree.now).fault }
-    {
+    fn fault(&self) -> Option<Fault> {
         match self.layer() {
             Layer::Faulty(fault) => Some(fault),
             Layer::Table(table) => table.fault(),
@@ -40,9 +20,21 @@ impl WholeTree<'_> {
         }
     }
 
-    pub fn kind(self, name: u8) -> Option<Kind>
-        ensures { result ≡ (tree_outline self.entry.tree.now).kind name }
-    {
+    // A pile with a fault has layers too.
+    fn layers(&self) -> u8 {
+        match &self.node {
+            Node::Table(table) => table.layers(),
+            Node::Gates(list) => list.layers(),
+            Node::Join { left, right, .. } => {
+                told(1 + u16::from(left.layers()) + u16::from(right.layers()))
+            }
+            Node::Rename { below, .. } | Node::Hide { below, .. } => {
+                told(1 + u16::from(below.layers()))
+            }
+        }
+    }
+
+    fn kind(&self, name: u8) -> Option<Kind> {
         match self.layer() {
             Layer::Faulty(_) => None,
             Layer::Table(table) => table.kind(name),
@@ -54,9 +46,7 @@ impl WholeTree<'_> {
         }
     }
 
-    pub fn top(self, name: u8) -> u8
-        ensures { result ≡ (tree_outline self.entry.tree.now).top name }
-    {
+    fn top(&self, name: u8) -> u8 {
         match self.layer() {
             Layer::Faulty(_) => 0,
             Layer::Table(table) => table.top(name),
@@ -68,9 +58,7 @@ impl WholeTree<'_> {
         }
     }
 
-    pub fn atoms(self) -> u8
-        ensures { result ≡ (tree_outline self.entry.tree.now).atoms }
-    {
+    fn atoms(&self) -> u8 {
         match self.layer() {
             Layer::Faulty(_) => 0,
             Layer::Table(table) => table.atoms(),
@@ -80,9 +68,7 @@ impl WholeTree<'_> {
         }
     }
 
-    pub fn controls(self, atom: u8) -> Names
-        ensures { (n : ℕ) → has result n ≡ (tree_outline self.entry.tree.now).controls atom n }
-    {
+    fn controls(&self, atom: u8) -> Names {
         match self.layer() {
             Layer::Faulty(_) => Names::none(),
             Layer::Table(table) => table.controls(atom),
@@ -94,9 +80,7 @@ impl WholeTree<'_> {
         }
     }
 
-    pub fn reads(self, atom: u8) -> Names
-        ensures { (n : ℕ) → has result n ≡ (tree_outline self.entry.tree.now).reads atom n }
-    {
+    fn reads(&self, atom: u8) -> Names {
         match self.layer() {
             Layer::Faulty(_) => Names::none(),
             Layer::Table(table) => table.reads(atom),
@@ -108,9 +92,7 @@ impl WholeTree<'_> {
         }
     }
 
-    pub fn awaits(self, atom: u8) -> Names
-        ensures { (n : ℕ) → has result n ≡ (tree_outline self.entry.tree.now).awaits atom n }
-    {
+    fn awaits(&self, atom: u8) -> Names {
         match self.layer() {
             Layer::Faulty(_) => Names::none(),
             Layer::Table(table) => table.awaits(atom),
@@ -121,10 +103,14 @@ impl WholeTree<'_> {
             Layer::Hide { below, .. } => below.awaits(atom),
         }
     }
+}
 
-    pub fn choices(self, round: Round, atom: u8) -> u8
-        ensures { result ≡ (tree_meaning self.entry.tree.now).acts.choices round atom }
-    {
+impl Drawing for AnyDrawing {
+    ghost meaning = { pile_meaning };
+
+    ghost agree = { Prim.search rules };
+
+    fn choices(&self, round: Round, atom: u8) -> u8 {
         match self.layer() {
             Layer::Faulty(_) => 0,
             Layer::Table(table) => table.choices(round, atom),
@@ -136,9 +122,7 @@ impl WholeTree<'_> {
     }
 
     // The drawing below a rename sees its own names: old and new values are told to it with the two names exchanged.
-    pub fn is_open(self, round: Round, atom: u8, choice: u8, old: State, new: State) -> bool
-        ensures { result ≡ (tree_meaning self.entry.tree.now).acts.opens round atom choice (value old) (value new) }
-    {
+    fn is_open(&self, round: Round, atom: u8, choice: u8, old: State, new: State) -> bool {
         match self.layer() {
             Layer::Faulty(_) => false,
             Layer::Table(table) => table.is_open(round, atom, choice, old, new),
@@ -158,9 +142,7 @@ impl WholeTree<'_> {
         }
     }
 
-    pub fn gives(self, round: Round, atom: u8, choice: u8, name: u8, old: State, new: State) -> i16
-        ensures { result ≡ (tree_meaning self.entry.tree.now).acts.gives round atom choice name (value old) (value new) }
-    {
+    fn gives(&self, round: Round, atom: u8, choice: u8, name: u8, old: State, new: State) -> i16 {
         match self.layer() {
             Layer::Faulty(_) => 0,
             Layer::Table(table) => table.gives(round, atom, choice, name, old, new),

@@ -1,7 +1,7 @@
 // The top layer of a tree, apart from the trees below it.
 ghost use Rattle.any_drawing.specs.Layers.{IsTop};
 
-use super::{Tree, WholeTree};
+use super::{AnyDrawing, Node};
 use gates::GateList;
 use model::Fault;
 use piles::Exchange;
@@ -14,63 +14,60 @@ pub enum Layer<'a> {
     Table(&'a Table),
     Gates(&'a GateList),
     Join {
-        left: WholeTree<'a>,
-        right: WholeTree<'a>,
+        left: &'a AnyDrawing,
+        right: &'a AnyDrawing,
         // how many atoms the left part has
         count: u8,
     },
     Rename {
-        below: WholeTree<'a>,
+        below: &'a AnyDrawing,
         exchange: Exchange,
     },
     Hide {
-        below: WholeTree<'a>,
+        below: &'a AnyDrawing,
         name: u8,
     },
 }
 
-impl<'a> WholeTree<'a> {
-    pub fn layer(self) -> Layer<'a>
-        ensures { IsTop self.entry.tree.now result }
+impl AnyDrawing {
+    pub(crate) fn layer(&self) -> Layer<'_>
+        ensures { IsTop self.now result }
     {
-        match self.tree {
-            Tree::Table(table) => Layer::Table(table),
-            Tree::Gates(list) => Layer::Gates(list),
-            Tree::Join {
+        match &self.node {
+            Node::Table(table) => Layer::Table(table),
+            Node::Gates(list) => Layer::Gates(list),
+            Node::Join {
                 fault: Some(fault),
                 ..
             }
-            | Tree::Rename {
+            | Node::Rename {
                 fault: Some(fault),
                 ..
             }
-            | Tree::Hide {
+            | Node::Hide {
                 fault: Some(fault),
                 ..
             } => Layer::Faulty(*fault),
-            Tree::Join {
+            Node::Join {
                 left,
                 right,
                 left_atoms,
                 ..
             } => Layer::Join {
-                left: WholeTree { tree: left },
-                right: WholeTree { tree: right },
+                left,
+                right,
                 count: *left_atoms,
             },
-            Tree::Rename {
+            Node::Rename {
                 below,
                 old,
                 new,
                 ..
             } => Layer::Rename {
-                below: WholeTree { tree: below },
+                below,
                 exchange: Exchange::of(*old, *new).unwrap(),
             },
-            Tree::Hide { below, name, .. } => Layer::Hide {
-                below: WholeTree { tree: below },
-                name: *name,
-            },
+            Node::Hide { below, name, .. } => Layer::Hide { below, name: *name },
         }
     }
 }

@@ -4,7 +4,7 @@ ghost use Rattle.expression.specs.Evaluation.{Inner, number_here, numbers_here, 
 
 use super::Evaluator;
 use crate::operators::{NumberOperator, TruthOperator, byte_at};
-use model::{State, value_of};
+use model::State;
 
 impl Evaluator<'_> {
     // The same one level further in; none where no level is left.
@@ -23,12 +23,13 @@ impl Evaluator<'_> {
         Some((i16::from(constant), place + 1))
     }
 
-    // The value of a name, and the place after it.
+    // The value of a name, and the place after it. Read in place: `value_of` takes the state by value, and copied 32 bytes for each name.
     fn value(&self, state: &State, place: usize) -> Option<(i16, usize)>
         ensures { result ≡ name_worth state.now self.now.bytes.now place }
     {
         let name = byte_at(self.bytes, place)?;
-        Some((i16::from(value_of(*state, name)), place + 1))
+        let value = state.get(usize::from(name)).copied().unwrap_or(0);
+        Some((i16::from(value), place + 1))
     }
 
     // What the number is worth that begins here and nests no deeper than there are levels left, and the place after it.
@@ -97,8 +98,8 @@ impl Evaluator<'_> {
         }
     }
 
-    // Two truths, one after the other, and the place after both. With the reading of one as a parameter this and `numbers`
-    // would be one function, in a cycle with both its callers.
+    // Two truths, one after the other, and the place after both. As one function that takes the reading of one as a closure
+    // this and `numbers` came out longer: each closure in the cycle needs a clause and a measure of its own.
     #[cycle(truth)]
     fn truths(&self, place: usize) -> Option<((bool, bool), usize)>
         ensures { result ≡ truths_here self.now place }

@@ -21,10 +21,7 @@ impl GateList {
         ensures parts { result.now ≡ (reading self.now).parts }
         ensures few { length result.now ≤ 16 }
     {
-        match &self.found {
-            Ok(parts) => parts.as_slice(),
-            Err(_) => &[],
-        }
+        self.found.as_ref().map_or(&[], |parts| parts.as_slice())
     }
 
     fn part(&self, atom: u8) -> Option<&Part>
@@ -102,10 +99,8 @@ impl Drawing for GateList {
     }
 
     fn gives(&self, round: Round, atom: u8, choice: u8, name: u8, old: State, _new: State) -> i16 {
-        // a match: with a filter the part would be asked for twice over, in two closures
-        match self.part(atom) {
-            Some(part) if part.controls().has(name) => i16::from(part.gives(round, choice, old)),
-            _ => 0,
-        }
+        self.part(atom)
+            .filter(|part| part.controls().has(name))
+            .map_or(0, |part| i16::from(part.gives(round, choice, old)))
     }
 }

@@ -1,8 +1,8 @@
 ghost use Rattle.std.specs.Prelude.{◌≡◌, ◌<◌, ℕ, Bool, false, ◌||◌, ◌&&◌, nat_lt};
-ghost use Rattle.model.specs.Sets.{has, is_name};
+ghost use Rattle.model.specs.Sets.{has, is_name, members, names_left};
 ghost use Rattle.model.specs.Tests.{Answers};
 
-use super::Names;
+use super::{Members, Names};
 use std::array::from_fn;
 
 impl Names {
@@ -42,5 +42,15 @@ impl Names {
         ensures { result ≡ has self.now name }
     {
         name < 32 && self.marks[name as usize]
+    }
+
+    // The names of the set, rising.
+    pub fn iter(&self) -> Members<'_>
+        ensures { names_left result ≡ members self.now }
+    {
+        Members {
+            names: self,
+            left: 0..32,
+        }
     }
 }

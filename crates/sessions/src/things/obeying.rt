@@ -98,7 +98,8 @@ impl Things {
         self.keep(name, Made::Drawing(joined))
     }
 
-    // Renaming, hiding and sealing have one course. With the step as a closure each would be as long as it is.
+    // Renaming, hiding and sealing have one course. One function over the step was proved too, and was longer: the closures
+    // that rename and hide need clauses of their own.
     fn rename(&mut self, name: String, below: String, old: u8, new: u8) -> Result<String, Mistake>
         ensures { MatchResult result (λ _. Obeys (Rename name below old new) self.old self.new) (λ e. Spares (Rename name below old new) self.old self.new e) }
     {

@@ -51,21 +51,16 @@ impl Table {
     fn contents(&self) -> &[u8]
         ensures { length (contents self.now) ≤ 4096 → result.now ≡ contents self.now }
     {
-        match &self.bytes {
-            Ok(bytes) => bytes.as_slice(),
-            Err(_) => &[],
-        }
+        self.bytes.as_ref().map_or(&[], |bytes| bytes.as_slice())
     }
 
-    // The written form of the choice's guard, empty if there is no such choice. A match here and below: what
-    // is known of the place would have to be told to a closure anew.
+    // The written form of the choice's guard, empty if there is no such choice.
     pub fn guard(&self, round: Round, atom: u8, choice: u8) -> &[u8]
         ensures { result.now ≡ guard_form (choice_of self.now round atom choice) }
     {
-        match self.place(round, atom, choice) {
-            Some(place) => Item::at(self.contents(), usize::from(place)).form(),
-            None => &[],
-        }
+        self.place(round, atom, choice)
+            .map(|place| Item::at(self.contents(), usize::from(place)).form())
+            .unwrap_or_default()
     }
 
     // The written form of what the choice gives to a name that its atom controls, empty if it gives it nothing.
@@ -78,12 +73,9 @@ impl Table {
         }
         // behind the guard, and behind the number for each lower name that is controlled
         let before = count_below(name, |lower| controls.has(lower)) + 1;
-        match self.place(round, atom, choice) {
-            Some(place) => {
-                let guard = Item::at(self.contents(), usize::from(place));
-                guard.later(before).form()
-            }
-            None => &[],
-        }
+        self.place(round, atom, choice).map_or(&[], |place| {
+            let guard = Item::at(self.contents(), usize::from(place));
+            guard.later(before).form()
+        })
     }
 }

@@ -1,12 +1,10 @@
-use Rattle.std.proofs.Common.{◌≡◌, List, ℕ, ◌++◌, vec_items}
-use Rattle.std.specs.Slice.Iter.{chunks_exact_rest, chunks_exact_size}
-use Rattle.commands.specs.Hex.{Spells}
+use Rattle.std.proofs.Common.{◌≡◌, ℕ, ◌+◌, ◌*◌, ◌<◌, get_or, Some, vec_items, vec_len}
+use Rattle.commands.specs.Hex.{byte_spelt}
 use Rattle.commands.proofs.hex.bytes_of_hex.Given as goal
 
--- the digits that are read spell the bytes
-abbrev pub invariant-loop-pair : goal.invariant-loop-pair
-invariant-loop-pair l =
-    (goal.iterator-loop-pair).can_next l.pair-iterator ×
-    (goal.iterator-loop-pair).is_finite l.pair-iterator ×
-    (chunks_exact_size l.pair-iterator ≡ 2) ×
-    ((read : List ℕ) × (l.text ≡ read ++ chunks_exact_rest l.pair-iterator) × Spells read (vec_items l.bytes))
+-- the pairs that are read spell the bytes
+abbrev pub invariant-loop-high : goal.invariant-loop-high
+invariant-loop-high l = record {
+  count : vec_len l.bytes ≡ l.high-index;
+  each : (k : ℕ) → k < l.high-index → byte_spelt (get_or l.text (2 * k) 0) (get_or l.text (2 * k + 1) 0) ≡ Some (get_or (vec_items l.bytes) k 0);
+}

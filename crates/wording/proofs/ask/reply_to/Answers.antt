@@ -1,7 +1,8 @@
-use Rattle.std.proofs.Common.{◌∙◌, Ok, refl, rules, tests}
-use Rattle.std.proofs.lemmas.Iterator.{items_from_collect, YieldsList-from_range}
-use Rattle.std.proofs.lemmas.Iterator.Consumers.{YieldsList-from_filter_map}
-use Rattle.wording.proofs.Below.{assignment_found, assignments_below}
+use Rattle.std.proofs.Common.{◌∙◌, Ok, rules, tests}
+use Rattle.std.proofs.lemmas.Iterator.{items_from_collect, YieldsList-from_map}
+use Rattle.std.proofs.lemmas.Iterator.Consumers.{YieldsList-at, YieldsList-from_first}
+use Rattle.model.specs.Sets.{has, names_left}
+use Rattle.wording.proofs.Below.{assigned, assignments_below}
 use Rattle.wording.proofs.ask.reply_to.Goals as goal
 
 pub returns : goal.returns
@@ -13,6 +14,6 @@ returns g c =
       opens = c.is_open-open.ensures;
       given =
           items_from_collect {E = Unit {0}} (Ok c.in_ok-given.given) c.in_ok-given.ensures.ran
-          (YieldsList-from_filter_map _ (assignment_found o acts q) (YieldsList-from_range 0 32 32 c.filter_map.ensures.source refl) c.filter_map.ensures.closure (λ x r q k. search (rules, tests)))
-          ∙ assignments_below o acts q 32;
+          (YieldsList-from_map _ (assigned o acts q) (YieldsList-at c.map.ensures.source (YieldsList-from_first (λ n. n) names_left _ c.iter.ensures)) c.map.ensures.closure (λ x r q k. search (rules, tests)))
+          ∙ assignments_below o acts q (has c.controls.result) c.controls.ensures 32;
     }
