@@ -1,4 +1,4 @@
--- Each part of a pile is less high than the pile. Assumes nothing.
+-- Each part of a pile is less high than the pile.
 use Rattle.std.specs.Prelude.{◌≤◌, max}
 use Rattle.std.proofs.Common.{arith}
 use Rattle.any_drawing.specs.Piles.{height}

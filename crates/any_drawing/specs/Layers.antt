@@ -1,4 +1,4 @@
--- The top layer of a tree, apart from the trees below it. Assumes nothing.
+-- The top layer of a tree, apart from the trees below it.
 use Rattle.std.specs.Prelude.{◌≡◌, ℕ, ◌<◌, Some}
 use Rattle.model.specs.Meanings.{OutlineFacts, ChoiceFacts}
 use Rattle.composition.specs.Acts.{acts_with, renamed_choices, joined_choices}

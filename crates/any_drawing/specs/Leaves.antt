@@ -1,4 +1,4 @@
--- What bytes describe, as a leaf of a pile. Assumes nothing.
+-- What bytes describe, as a leaf of a pile.
 use Rattle.std.specs.Prelude.{◌≡◌, ℕ, List}
 use Rattle.gates.specs.Behaviour.{GatesWork}
 use Rattle.gates.specs.GateLists.{opened}

@@ -1,4 +1,4 @@
--- What a drawing that may be any pile means. Assumes nothing.
+-- What a drawing that may be any pile means.
 use Rattle.model.specs.Meanings.{OutlineFacts, Meaning}
 use Rattle.any_drawing.specs.Piles.{Pile, pile_meaning}
 

@@ -1,4 +1,4 @@
--- A pile as stored data, by which a proof tells piles apart. Assumes nothing.
+-- A pile as stored data, by which a proof tells piles apart.
 use base.Stored.{Gv, gnil, gnum, gcons, num, Coded}
 use Rattle.std.specs.Prelude.{◌≡◌}
 use Rattle.std.proofs.Common.{ap, arith}

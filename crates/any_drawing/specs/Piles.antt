@@ -1,5 +1,5 @@
 -- What a tree of layers is seen as: its layers without what they keep, and what they mean, each layer as if it were piled by
--- itself. Assumes nothing.
+-- itself.
 use Rattle.std.specs.Prelude.{ℕ, ◌+◌, max}
 use Rattle.composition.specs.Meanings.{renamed, hidden, joined}
 use Rattle.gates.specs.Drawn.{meaning_of as gates_meaning}

@@ -1,4 +1,4 @@
--- What a layer is seen as, over what the trees below it are seen as. Assumes nothing.
+-- What a layer is seen as, over what the trees below it are seen as.
 use Rattle.any_drawing.specs.Piles.{Pile, OfTable, OfGates, Joined, Renamed, Hidden}
 use Rattle.any_drawing.specs.declared.tree.Node.{Node}
 use Rattle.any_drawing.specs.declared.tree.Node.TheVariants.{Table, Gates, Join, Rename, Hide}

@@ -1,4 +1,4 @@
--- What a layer keeps from the call that made it on: what stands beside its parts is what was judged of them. Assumes nothing.
+-- What a layer keeps from the call that made it on: what stands beside its parts is what was judged of them.
 use Rattle.std.specs.Prelude.{◌≡◌, ℕ, ◌<◌, None, Option}
 use Rattle.model.specs.Meanings.{OutlineFacts}
 use Rattle.model.specs.declared.Fault.{Fault}

@@ -1,4 +1,4 @@
-// One type for every drawing: a leaf, or a pile of such drawings. What is piled is decided while a program runs.
+//! One type for every drawing: a leaf, or a pile of such drawings. What is piled is decided while a program runs.
 #![tactic(auto)]
 
 mod making;

@@ -1,5 +1,5 @@
-// The ways to make a drawing. A fault still makes one, which tells it and has no variables and no atoms. Where memory
-// is wanting, the parts are let go.
+//! The ways to make a drawing. A fault still makes one, which tells it and has no variables and no atoms. Where memory
+//! is wanting, the parts are let go.
 ghost use Rattle.any_drawing.specs.Leaves.{MeansGates, MeansTable};
 ghost use Rattle.any_drawing.specs.Meaning.{any_meaning};
 ghost use Rattle.composition.specs.Meanings.{renamed, hidden, joined};
@@ -7,14 +7,14 @@ ghost use Rattle.reactive.specs.Piles.{JoinsParts, RenamesPart, HidesPart};
 ghost use Rattle.std.specs.Prelude.{◌≡◌, IfOk, OnOk};
 
 use crate::{AnyDrawing, Node};
-use drawing::Outline;
+use model::Outline;
 use gates::GateList;
 use piles::{hide_fault, join_fault, rename_fault};
 use std::alloc::{AllocError, Global};
 use table::Table;
 
 impl AnyDrawing {
-    // The table that the bytes describe.
+    /// The table that the bytes describe.
     pub fn table(heap: Global, bytes: &[u8]) -> Result<AnyDrawing, AllocError>
         ensures means { IfOk result (λ d. MeansTable bytes.now (any_meaning d)) }
     {
@@ -24,7 +24,7 @@ impl AnyDrawing {
         })
     }
 
-    // The gate list that the bytes describe.
+    /// The gate list that the bytes describe.
     pub fn gates(heap: Global, bytes: &[u8]) -> Result<AnyDrawing, AllocError>
         ensures means { IfOk result (λ d. MeansGates bytes.now (any_meaning d)) }
     {
@@ -34,7 +34,7 @@ impl AnyDrawing {
         })
     }
 
-    // The two side by side. Atoms of the left part come first.
+    /// The two side by side. Atoms of the left part come first.
     pub fn join(heap: Global, left: AnyDrawing, right: AnyDrawing) -> Result<AnyDrawing, AllocError>
         ensures means { IfOk result (λ d. any_meaning d ≡ joined (any_meaning left) (any_meaning right)) }
         ensures parts { OnOk result (JoinsParts (any_meaning left) (any_meaning right)) }
@@ -52,7 +52,7 @@ impl AnyDrawing {
         Ok(AnyDrawing { node })
     }
 
-    // The drawing with a new name for one of its variables.
+    /// The drawing with a new name for one of its variables.
     pub fn rename(
         heap: Global,
         below: AnyDrawing,
@@ -73,7 +73,7 @@ impl AnyDrawing {
         Ok(AnyDrawing { node })
     }
 
-    // The drawing with one of its interface names made private.
+    /// The drawing with one of its interface names made private.
     pub fn hide(heap: Global, below: AnyDrawing, name: u8) -> Result<AnyDrawing, AllocError>
         ensures means { IfOk result (λ d. any_meaning d ≡ hidden (any_meaning below) name) }
         ensures part { OnOk result (HidesPart (any_meaning below) name) }

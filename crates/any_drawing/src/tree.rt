@@ -1,5 +1,5 @@
-// The layers of a drawing. A type cannot lead back to itself through the type parameter of a pile, whose bound has
-// a meaning, so the piles stand here once more, as layers.
+//! The layers of a drawing. A type cannot lead back to itself through the type parameter of a pile, whose bound has
+//! a meaning, so the piles stand here once more, as layers.
 ghost use Rattle.any_drawing.specs.Trees.{pile_of};
 ghost use Rattle.any_drawing.specs.Whole.{Whole};
 ghost use Rattle.std.specs.Prelude.{◌≡◌};
@@ -12,16 +12,16 @@ use table::Table;
 mod asking;
 mod layer;
 
-// A tree of layers, each of which keeps what was judged of its parts when it was made.
+/// A tree of layers, each of which keeps what was judged of its parts when it was made.
 #[cycle(tree)]
 #[derive(Drop)]
 pub struct AnyDrawing {
     pub(crate) node: Node,
 }
 
-// A pile keeps its fault, and a join how many atoms its left part has, as they were when it was made. The fault stands beside the
-// parts, in no Result with them, since a faulty pile has them too and counts their layers. Whoever goes through a pile reads its
-// layers here.
+/// A pile keeps its fault, and a join how many atoms its left part has, as they were when it was made. The fault stands beside the
+/// parts, in no Result with them, since a faulty pile has them too and counts their layers. Whoever goes through a pile reads its
+/// layers here.
 #[cycle(tree)]
 #[derive(Drop)]
 pub enum Node {
@@ -69,7 +69,7 @@ impl Model for AnyDrawing {
 }
 
 impl AnyDrawing {
-    // The top layer, with what it keeps.
+    /// The top layer, with what it keeps.
     pub fn node(&self) -> &Node
         ensures same { pile_of result.now ≡ self.now }
         ensures whole { Whole result.now }

@@ -1,7 +1,6 @@
-// Whether two drawings answer every question alike: at all names, atoms and choices, and a few more that are not there. The two are
-// handed on as the operands of a comparison, which a struct of both would only hide.
-use drawing::{Drawing, Outline};
-use model::{Round, State};
+//! Whether two drawings answer every question alike: at all names, atoms and choices, and a few more that are not there. The two are
+//! handed on as the operands of a comparison, which a struct of both would only hide.
+use model::{Drawing, Outline, Round, State};
 
 pub fn alike<A: Drawing, B: Drawing>(a: &A, b: &B) -> bool {
     a.fault() == b.fault()

@@ -1,9 +1,8 @@
-// Faults at the bottom of deep piles. Layers are counted from the top one, 0, the whole left part first; past 255 is
-// told as 255.
+//! Faults at the bottom of deep piles. Layers are counted from the top one, 0, the whole left part first; past 255 is
+//! told as 255.
 use crate::building::*;
 use any_drawing::AnyDrawing;
-use drawing::Outline;
-use model::Fault;
+use model::{Fault, Outline};
 use std::alloc::{AllocError, Global};
 use std::test::Fail;
 

@@ -1,11 +1,10 @@
-// Many parts joined in different ways.
+//! Many parts joined in different ways.
 ghost use Rattle.std.specs.Prelude.{◌+◌, ◌≤◌, IfOk};
 
 use crate::alike::alike;
 use crate::building::*;
 use any_drawing::AnyDrawing;
-use drawing::{Drawing, Outline};
-use model::{Fault, Kind, Names, Round};
+use model::{Drawing, Fault, Kind, Names, Outline, Round};
 use std::alloc::{AllocError, Global};
 use std::test::Fail;
 

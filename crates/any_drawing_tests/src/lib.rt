@@ -1,4 +1,4 @@
-// Tests of drawings that are piled while the test runs. The expected answers are worked out by hand from the rules.
+//! Tests of drawings that are piled while the test runs. The expected answers are worked out by hand from the rules.
 #![tactic(auto)]
 
 #[cfg(test)]

@@ -1,4 +1,4 @@
-// A pile told in words, by going through its layers.
+//! A pile told in words, by going through its layers.
 use crate::building::*;
 use any_drawing::{AnyDrawing, Node};
 use std::alloc::{AllocError, Global};

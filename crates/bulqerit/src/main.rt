@@ -1,4 +1,4 @@
-// Runs a script over gate lists.
+//! Runs a script over gate lists.
 #![tactic(auto)]
 
 use commands::Vocabulary;

@@ -1,4 +1,4 @@
--- The worked cases, by computing the definitions. Assumes nothing.
+-- The worked cases, by computing the definitions.
 use Rattle.std.proofs.Common.{refl}
 use Rattle.model.specs.Tests.{every, some, lowest, count}
 use Rattle.theory.specs.Enumerations.{below, pairs, ranges}

@@ -1,4 +1,4 @@
--- Worked cases: what is asked, and the four numbers that the definitions answer it with. Assumes nothing.
+-- Worked cases: what is asked, and the four numbers that the definitions answer it with.
 use Rattle.std.specs.Prelude.{ℕ, List, [], ◌∷◌, ◌++◌, take, replicate, Some, None, Option, slice_set}
 use Rattle.std.specs.List.{flat_map}
 use Rattle.composition.specs.Meanings as piles

@@ -1,4 +1,4 @@
--- What the worked cases show. Assumes nothing.
+-- What the worked cases show.
 use Rattle.std.specs.Prelude.{◌≡◌, map}
 use Rattle.composition.specs.Meanings.{joined}
 use Rattle.cases.specs.Cases.{Case, answered, certified, refuted, told, wires, cases, inverter, always_on, off_at_1}

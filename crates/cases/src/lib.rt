@@ -1,4 +1,4 @@
-// Worked cases, proved on the definitions. Each function does nothing, and exists so that its contract names a theorem.
+//! Worked cases, proved on the definitions. Each function does nothing, and exists so that its contract names a theorem.
 #![tactic(auto)]
 
 ghost use Rattle.cases.specs.Statements.{WorkedCasesComeOut, BrokenOnAPartHeldOnTheJoin};

@@ -1,4 +1,4 @@
--- Two characters that spell a byte, or none. Assumes nothing.
+-- Two characters that spell a byte, or none.
 use Rattle.std.proofs.Common.{◌≡◌, ℕ, zero, suc, ◌+◌, ◌*◌, ◌/◌, ◌<◌, List, [], ◌∷◌, ◌++◌, length, get_or, drop, Some, None, Option, refl, ap, ◌∙◌, sym, arith, not-suc-le-zero, le_of_suc-le-suc, add-zero, below_more}
 use Rattle.std.proofs.Math.Seq.{get_or-append_seam}
 use Rattle.std.proofs.lemmas.List.{get_or-take, get_or-drop, get_or_append_left}

@@ -1,4 +1,4 @@
--- Bytes as hex digits, two to a byte. Assumes nothing.
+-- Bytes as hex digits, two to a byte.
 use Rattle.std.specs.Prelude.{◌≡◌, ℕ, ◌+◌, ◌-◌, ◌*◌, ◌<◌, cond, ◌&&◌, List, length, Some, None, Option, nat_le, slice_index}
 
 -- what a character is worth as a hex digit: 0 to 9, then a to f in either case

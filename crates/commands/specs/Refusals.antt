@@ -1,4 +1,4 @@
--- When a line is refused, and why. Assumes nothing.
+-- When a line is refused, and why.
 use Rattle.std.specs.Prelude.{◌≡◌, ℕ, ◌%◌, ◌⊎◌, List, ◌∷◌, length, codes, ◌≢◌}
 use Rattle.commands.specs.Hex.{Strange}
 use Rattle.commands.specs.declared.mistake.Mistake.{Mistake}

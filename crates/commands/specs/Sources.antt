@@ -1,4 +1,4 @@
--- Byte strings, as a line gives them. Assumes nothing.
+-- Byte strings, as a line gives them.
 use Rattle.std.specs.Prelude.{◌≡◌, ℕ, ◌⊎◌, List, [], ◌∷◌, Ok, vec_items, string_bytes, codes, Result, Vec}
 use Rattle.std.specs.declared.alloc.Global.{Global}
 use Rattle.commands.specs.Hex.{Spells}

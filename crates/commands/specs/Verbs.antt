@@ -1,4 +1,4 @@
--- The words that commands begin with. Assumes nothing.
+-- The words that commands begin with.
 use Rattle.std.specs.Prelude.{ℕ, Bool, true, false, cond, List, Some, None, codes, Option}
 use Rattle.std.specs.Str.{bytes_eq}
 use Rattle.commands.specs.declared.verb.Verb.{Verb}

@@ -1,4 +1,4 @@
--- The words of a line, parted by white space. Assumes nothing.
+-- The words of a line, parted by white space.
 use Rattle.std.specs.Prelude.{◌≡◌, ℕ, ◌<◌, List, [], ◌∷◌, ◌++◌, length}
 use Rattle.std.specs.Borrow.{Bor}
 use Rattle.std.specs.Char.{is_whitespace, is_not_whitespace}

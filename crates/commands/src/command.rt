@@ -1,4 +1,4 @@
-// What a line of a script asks for.
+//! What a line of a script asks for.
 ghost use Rattle.std.specs.Prelude.{◌≡◌, ℕ, List, IfOk, IfErr, MatchResult};
 ghost use Rattle.commands.specs.Commands.{Numeral, round_of, miscounted, Told, begins_comment, Asks, Unread};
 ghost use Rattle.commands.specs.Words.{Words};
@@ -170,7 +170,7 @@ fn begins_comment(word: &str) -> bool
     word.starts_with('#')
 }
 
-// What the line asks for; a blank line and a comment ask for nothing.
+/// What the line asks for; a blank line and a comment ask for nothing.
 pub fn parse(heap: Global, vocabulary: Vocabulary, line: &str) -> Result<Option<Command>, Mistake>
     ensures { MatchResult result (λ o. (ws : List (Bor (List ℕ))) × Words line.now ws × Asks vocabulary ws o) (λ e. Unread vocabulary line.now e) }
 {

@@ -1,5 +1,5 @@
-// Byte strings as hex digits, two to a byte. Not by the library's `hex`: its errors tell places and characters, which would be turned
-// into these two mistakes, and its contract into what is promised here.
+//! Byte strings as hex digits, two to a byte. Not by the library's `hex`: its errors tell places and characters, which would be turned
+//! into these two mistakes, and its contract into what is promised here.
 ghost use Rattle.commands.specs.Hex.{digit_worth, byte_spelt, Spells};
 ghost use Rattle.commands.specs.Refusals.{HexRefused};
 ghost use Rattle.commands.specs.declared.mistake.Mistake.TheVariants.{BadHex};
@@ -25,7 +25,7 @@ fn byte(high: u8, low: u8) -> Result<u8, Mistake>
     }
 }
 
-// The bytes that a text of hex digits spells.
+/// The bytes that a text of hex digits spells.
 pub fn bytes_of_hex(heap: Global, text: &str) -> Result<Vec<u8>, Mistake>
     ensures { MatchResult result (λ v. Spells text.now v.items) (λ e. HexRefused text.now e) }
 {

@@ -1,4 +1,4 @@
-// Lines of a script: the command that one spells, in the vocabulary that a program knows, and what can be wrong with it.
+//! Lines of a script: the command that one spells, in the vocabulary that a program knows, and what can be wrong with it.
 #![tactic(auto)]
 
 mod command;

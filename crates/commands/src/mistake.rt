@@ -1,4 +1,4 @@
-// What can be wrong with a line.
+//! What can be wrong with a line.
 ghost use Rattle.commands.specs.declared.mistake.Mistake.TheVariants.{NoMemory};
 ghost use Rattle.std.specs.Prelude.{◌≡◌};
 

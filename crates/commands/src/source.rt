@@ -1,4 +1,4 @@
-// Byte strings, as a line gives them.
+//! Byte strings, as a line gives them.
 ghost use Rattle.commands.specs.Refusals.{SourceRefused};
 ghost use Rattle.commands.specs.Sources.{Denotes, Loads};
 ghost use Rattle.commands.specs.declared.mistake.Mistake.TheVariants.{NotAState};
@@ -9,12 +9,12 @@ use crate::mistake::Mistake;
 use model::State;
 use std::alloc::Global;
 
-// Where the bytes of files come from.
+/// Where the bytes of files come from.
 pub trait FileBytes {
     fn read(&self, path: &str) -> Result<Vec<u8>, Mistake>;
 }
 
-// A byte string, or the path of the file that holds it.
+/// A byte string, or the path of the file that holds it.
 #[derive(Drop)]
 pub enum ByteSource {
     Given(Vec<u8>),
@@ -22,7 +22,7 @@ pub enum ByteSource {
 }
 
 impl ByteSource {
-    // A word for bytes: `-` for none, `@PATH` for those of a file, else hex digits.
+    /// A word for bytes: `-` for none, `@PATH` for those of a file, else hex digits.
     pub fn read(heap: Global, word: &str) -> Result<ByteSource, Mistake>
         ensures { MatchResult result (λ s. Denotes word.now s) (λ e. SourceRefused word.now e) }
     {
@@ -35,7 +35,7 @@ impl ByteSource {
         }
     }
 
-    // The bytes, from the line or from a file.
+    /// The bytes, from the line or from a file.
     pub fn load<F: FileBytes>(self, files: &F) -> Result<Vec<u8>, Mistake>
         ensures { Loads self result }
     {
@@ -46,7 +46,7 @@ impl ByteSource {
     }
 }
 
-// The bytes as a state.
+/// The bytes as a state.
 pub fn state_of(bytes: &[u8]) -> Result<State, Mistake>
     ensures { MatchResult result (λ s. s ≡ bytes.now) (λ e. (e ≡ NotAState) × (length bytes.now ≢ 32)) }
 {

@@ -1,4 +1,4 @@
-// The words that commands begin with.
+//! The words that commands begin with.
 ghost use Rattle.commands.specs.Verbs.{verb_of, words_wanted};
 ghost use Rattle.commands.specs.declared.mistake.Mistake.TheVariants.{UnknownCommand};
 ghost use Rattle.std.specs.Prelude.{◌≡◌, ok_or};
@@ -43,7 +43,7 @@ impl FromStr for Verb {
 }
 
 impl Verb {
-    // How many words a command wants after its own.
+    /// How many words a command wants after its own.
     pub fn words_wanted(self) -> usize
         ensures { result ≡ words_wanted self }
     {

@@ -1,4 +1,4 @@
-// The commands that a program knows. It may know only some of them.
+//! The commands that a program knows. It may know only some of them.
 ghost use Rattle.commands.specs.Verbs.{knows, known_verb};
 ghost use Rattle.commands.specs.declared.mistake.Mistake.TheVariants.{UnknownCommand};
 ghost use Rattle.std.specs.Prelude.{◌≡◌, Some, None, MatchResult};
@@ -25,7 +25,7 @@ impl Vocabulary {
         }
     }
 
-    // The verb that the word is. One that is not known is refused as if there were none.
+    /// The verb that the word is. One that is not known is refused as if there were none.
     pub fn verb(self, word: &str) -> Result<Verb, Mistake>
         ensures { MatchResult result (λ v. known_verb self word.now ≡ Some v) (λ e. (e ≡ UnknownCommand) × (known_verb self word.now ≡ None)) }
     {

@@ -1,4 +1,4 @@
--- Kinds of names that are joined, in any order. Assumes nothing.
+-- Kinds of names that are joined, in any order.
 use Rattle.std.proofs.Common.{◌≡◌, Bool, true, false, cond, not, ◌&&◌, ◌||◌, Some, None, Option, refl, ap, subst}
 use Rattle.std.proofs.lemmas.Bool.{true≢false, false≢true, and_parts}
 use Rattle.model.specs.declared.Kind.{Kind}

@@ -1,4 +1,4 @@
--- Where a rename, a hide or a join has no fault. Assumes nothing.
+-- Where a rename, a hide or a join has no fault.
 use Rattle.std.proofs.Common.{◌≡◌, ℕ, ◌+◌, ◌<◌, ◌≤◌, cond, not, ◌||◌, ltb, is_some, Some, None, Option, ap, ◌∙◌, arith}
 use Rattle.std.proofs.lemmas.Bool.{cond-true, cond-false, not_from_true, or_from, lt-ltb, le-ltb}
 use Rattle.std.specs.Option.{option_or, option_map}

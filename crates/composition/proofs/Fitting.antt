@@ -1,4 +1,4 @@
--- Outlines that fit each other, in any order. Assumes nothing.
+-- Outlines that fit each other, in any order.
 use Rattle.std.proofs.Common.{◌≡◌, ℕ, true, false, not, ◌&&◌, eqb, ◌⊎◌, is_some, None, sym, refl, ap, ◌∙◌, inl, inr, arith}
 use Rattle.std.proofs.lemmas.Bool.{true≢false, and_from, and_cases, and_left, and_right, cases_Bool, cond_both, cond-true, eqb-true, eq-eqb, not-false, not_from_true, or_from, or_parts}
 use Rattle.model.specs.Meanings.{OutlineFacts, Meaning}

@@ -1,4 +1,4 @@
--- A module with a name hidden does what it did. Assumes nothing.
+-- A module with a name hidden does what it did.
 use Rattle.std.proofs.Common.{◌≡◌, ℕ, false, List, pos, None, Option, sym, refl, ◌∙◌}
 use Rattle.model.specs.Meanings.{Meaning}
 use Rattle.model.specs.States.{yields, nothing}

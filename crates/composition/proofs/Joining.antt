@@ -1,4 +1,4 @@
--- A join does what both of its parts do. Assumes nothing.
+-- A join does what both of its parts do.
 use Rattle.std.proofs.Common.{◌≡◌, ℕ, ◌+◌, ◌-◌, ◌<◌, ◌≤◌, Bool, true, false, ◌||◌, ◌⊎◌, List, length, pos, is_some, Some, None, Decides, Option, sym, refl, ap, ◌∙◌, subst, inl, inr, arith}
 use Rattle.std.proofs.lemmas.Bool.{true≢false, and_from, and_parts, cases_Bool, cases_lt}
 use Rattle.model.specs.Meanings.{Valuation, Meaning}

@@ -1,4 +1,4 @@
--- What a module that is part of another does there is what it does alone. Assumes nothing.
+-- What a module that is part of another does there is what it does alone.
 use Rattle.std.proofs.Common.{◌≡◌, ℕ, ◌<◌, ◌≤◌, Bool, true, cond, ◌&&◌, eqb, leb, List, length, is_some, sym, ap, ◌∙◌, subst, arith}
 use Rattle.std.proofs.lemmas.Bool.{and_from, and_parts, cond_both}
 use Rattle.model.specs.Meanings.{Valuation, Meaning}

@@ -1,4 +1,4 @@
--- Asking a table at the exchanged names puts one name for the other. Assumes nothing.
+-- Asking a table at the exchanged names puts one name for the other.
 use Rattle.std.proofs.Common.{◌≡◌, ℕ, Bool, true, false, cond, eqb, ◌⊎◌, pos, is_some, None, Option, sym, refl, ap, ◌∙◌, inl, inr}
 use Rattle.std.proofs.lemmas.Bool.{true≢false, cases_Bool, cond-true, cond-false, eq-eqb, ne_eqb}
 use Rattle.model.specs.Meanings.{Valuation, Meaning, Alike}

@@ -1,4 +1,4 @@
--- A renamed module does what the module does, under the exchanged names. Assumes nothing.
+-- A renamed module does what the module does, under the exchanged names.
 use Rattle.std.proofs.Common.{◌≡◌, ℕ, ◌<◌, ◌≤◌, Bool, true, false, ◌&&◌, List, length, pos, is_some, None, Option, sym, refl, ap, ◌∙◌, subst}
 use mathlib.Core.Path.{fun_ext}
 use Rattle.std.proofs.lemmas.Bool.Decides.{same_from_decides, Decides-like}

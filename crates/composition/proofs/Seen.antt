@@ -1,4 +1,4 @@
--- A round looks only at the values of a module's variables. Assumes nothing.
+-- A round looks only at the values of a module's variables.
 use Rattle.std.proofs.Common.{◌≡◌, ℕ, Bool, true, false, ◌&&◌, ◌⊎◌, is_some, sym, ap, ◌∙◌, inl, inr}
 use Rattle.std.proofs.lemmas.Bool.{cases_Bool}
 use Rattle.model.specs.Meanings.{Valuation, OutlineFacts, Meaning, Alike}

@@ -1,5 +1,5 @@
 -- A map that takes initial states of one module to initial states of another, and successors to successors, takes
--- trajectories to trajectories. Assumes nothing.
+-- trajectories to trajectories.
 use Rattle.std.proofs.Common.{ℕ, List, map}
 use Rattle.model.specs.Meanings.{Meaning}
 use Rattle.model.specs.States.{InitialState, Successor, Trajectory, Reachable}

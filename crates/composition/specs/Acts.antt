@@ -1,4 +1,4 @@
--- The choices of renamed, hidden and joined drawings. Assumes nothing.
+-- The choices of renamed, hidden and joined drawings.
 use Rattle.std.specs.Prelude.{ℕ, false, pos, Option}
 use Rattle.model.specs.Meanings.{Valuation, ChoiceFacts, Meaning}
 use Rattle.model.specs.declared.Fault.{Fault}

@@ -1,4 +1,4 @@
--- The choices of renamed, hidden and joined drawings keep the laws of choices. Assumes nothing.
+-- The choices of renamed, hidden and joined drawings keep the laws of choices.
 use Rattle.std.specs.Prelude.{◌≡◌, ℕ, ◌-◌, ◌<◌, ◌≤◌, Bool, true, false, cond, pos, negsuc, ◌≤ℤ◌, Some, None, Option, nat_lt, refl}
 use Rattle.std.proofs.Common.{sym, ap, ◌∙◌, not-suc-le-zero, arith}
 use Rattle.std.specs.Int.Signed.{le_z_yes}

@@ -1,4 +1,4 @@
--- What the absence of a fault says, and that each fault has a number. Assumes nothing.
+-- What the absence of a fault says, and that each fault has a number.
 use Rattle.std.specs.Prelude.{◌≡◌, ℕ, ◌+◌, ◌<◌, ◌≤◌, Bool, true, false, cond, not, ◌||◌, is_some, Some, None, Option, ◌≢◌, nat_lt, refl}
 use Rattle.std.proofs.Common.{sym, ap, subst, arith}
 use Rattle.std.proofs.lemmas.Bool.{true≢false, not-false, or_parts, ltb-false}

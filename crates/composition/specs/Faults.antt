@@ -1,5 +1,5 @@
 -- What is wrong with a rename, a hide or a join, and in which layer. Layers are counted from the top one, 0: below it
--- comes the whole left part, then the right; past 255 is told as 255. Assumes nothing.
+-- comes the whole left part, then the right; past 255 is told as 255.
 use Rattle.std.specs.Prelude.{ℕ, ◌+◌, min, Bool, true, false, cond, not, ◌&&◌, ◌||◌, is_some, Some, None, Option, ◌==◌, nat_lt}
 use Rattle.std.specs.Option.{option_or, option_map}
 use Rattle.model.specs.Faults.{own}

@@ -1,4 +1,4 @@
--- The meanings of renamed, hidden and joined drawings. Assumes nothing.
+-- The meanings of renamed, hidden and joined drawings.
 use Rattle.std.specs.Prelude.{ℕ}
 use Rattle.model.specs.Meanings.{Meaning}
 use Rattle.composition.specs.Acts.{renamed_acts, hidden_acts, joined_acts}

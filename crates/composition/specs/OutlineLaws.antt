@@ -1,4 +1,4 @@
--- The outlines of renamed, hidden and joined drawings keep the laws of outlines. Assumes nothing.
+-- The outlines of renamed, hidden and joined drawings keep the laws of outlines.
 use Rattle.std.specs.Prelude.{◌≡◌, ℕ, ◌+◌, ◌-◌, ◌<◌, ◌≤◌, Bool, true, false, ◌⊎◌, is_some, Some, None, Option, ◌==◌, ◌≢◌, nat_lt, refl}
 use Rattle.std.proofs.Common.{inl, inr, sym, ap, subst, ◌∙◌, not-suc-le-zero, arith}
 use Rattle.std.proofs.lemmas.Bool.{true≢false, false≢true, cond_both, cond-true, cond-false, cases_Bool, cases_lt, ltb-true, ltb-false, lt-ltb, le-ltb, eqb-true}

@@ -1,4 +1,4 @@
--- The outlines of renamed, hidden and joined drawings. Assumes nothing.
+-- The outlines of renamed, hidden and joined drawings.
 use Rattle.std.specs.Prelude.{ℕ, ◌+◌, ◌-◌, false, cond, is_some, Some, None, Option, ◌==◌, nat_lt}
 use Rattle.model.specs.Meanings.{OutlineFacts}
 use Rattle.model.specs.declared.Fault.{Fault}

@@ -1,4 +1,4 @@
--- Meanings that answer alike. Assumes nothing.
+-- Meanings that answer alike.
 use Rattle.std.specs.Prelude.{◌≡◌, ℕ}
 use Rattle.model.specs.Meanings.{Valuation, Meaning}
 use Rattle.model.specs.declared.Round.{Round}

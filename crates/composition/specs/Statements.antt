@@ -1,4 +1,4 @@
--- What renaming, hiding and joining keep of a module. Assumes nothing.
+-- What renaming, hiding and joining keep of a module.
 use Rattle.std.specs.Prelude.{◌≡◌, ℕ, ◌+◌, ◌<◌, Bool, true, false, cond, ◌||◌, ◌↔◌, List, map, length, pos, is_some, Some, None, Decides, ◌==◌}
 use Rattle.model.specs.Meanings.{Valuation, OutlineFacts, Meaning}
 use Rattle.model.specs.States.{value, is_state, yields, Trajectory, Reachable}

@@ -1,4 +1,4 @@
--- A state of a whole as its part sees it, and a state under other names. Assumes nothing.
+-- A state of a whole as its part sees it, and a state under other names.
 use Rattle.std.specs.Prelude.{ℕ, cond, List, map, is_some}
 use Rattle.std.specs.List.{range_with_len}
 use Rattle.model.specs.Meanings.{Valuation, OutlineFacts}

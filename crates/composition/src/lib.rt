@@ -1,5 +1,5 @@
-// Renaming, hiding and joining of modules, and what these keep. Each function does nothing and stands for a theorem, its
-// contract, so that no check passes without the theorem's proof.
+//! Renaming, hiding and joining of modules, and what these keep. Each function does nothing and stands for a theorem, its
+//! contract, so that no check passes without the theorem's proof.
 #![tactic(auto)]
 
 ghost use Rattle.composition.specs.Statements.{FaultsOfJoins, SoundExactlyWhereAllowed, JoinsHoldBothParts, StatesOfJoins, RoundsOfJoins, JoinsProjectToTheirParts, JoinsCommute, JoinsAssociate, RenamingPutsOneNameForAnother, RoundsOfRenamedModules, RenamingKeepsWhatIsReachable, RenamingBackUndoesRenaming, HidingKeepsRounds, HidingKeepsWhatIsReachable};

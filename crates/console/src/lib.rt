@@ -1,4 +1,4 @@
-// Runs a script for a program: reads it, and prints an answer for each line that asks for something.
+//! Runs a script for a program: reads it, and prints an answer for each line that asks for something.
 #![tactic(auto)]
 
 use commands::{FileBytes, Mistake, Vocabulary};
@@ -62,8 +62,8 @@ fn run_script(rt: &HostRuntime, vocabulary: Vocabulary) -> io::Result<bool> {
     }
 }
 
-// Runs the script with the commands of the vocabulary. The status is 1 where a line was refused or the script cannot be
-// run. What went wrong has been told then.
+/// Runs the script with the commands of the vocabulary. The status is 1 where a line was refused or the script cannot be
+/// run. What went wrong has been told then.
 pub fn run(rt: &HostRuntime, vocabulary: Vocabulary) -> ExitCode {
     match run_script(rt, vocabulary) {
         Ok(true) => ExitCode::SUCCESS,

@@ -1,4 +1,4 @@
--- Where expressions end, by their operators. Assumes nothing.
+-- Where expressions end, by their operators.
 use Rattle.std.proofs.Common.{◌≡◌, ℕ, ◌+◌, Bool, true, false, cond, ◌⊎◌, List, Some, None, Ok, Err, Option, sym, refl, ap, ◌∙◌, inl, inr, arith}
 use Rattle.language.specs.Expressions.{Number, Seen, sum, difference, old_value, equal, less, conjunction, disjunction, byte_at, Reading, good, bad, after, judged, good_byte, read_byte, as_name, one, two, number_operator, read_number, truth_operator, read_truth}
 use Rattle.expression.specs.Checking.{read_end, name_end}

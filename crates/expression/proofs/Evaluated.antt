@@ -1,4 +1,4 @@
--- What a right expression is worth does not depend on the names that are seen. Assumes nothing.
+-- What a right expression is worth does not depend on the names that are seen.
 use Rattle.std.proofs.Common.{◌≡◌, ℕ, ◌≤◌, Bool, true, false, ◌&&◌, ltb, leb, List, length, ℤ, pos, negsuc, ◌≤ℤ◌, sym, refl, ap, ◌∙◌, subst, arith}
 use borrow.Author.Differences.{ints}
 use Rattle.std.proofs.lemmas.Bool.{and_from, and_parts}

@@ -1,4 +1,4 @@
--- What an expression is worth by the operator that it begins with. Assumes nothing.
+-- What an expression is worth by the operator that it begins with.
 use Rattle.std.proofs.Common.{◌≡◌, ℕ, ◌+◌, Bool, true, not, ◌&&◌, ◌||◌, List, ℤ, ◌+ℤ◌, ◌-ℤ◌, Some, None, sym, refl, ap, ◌∙◌, arith}
 use lib.Signed.{lt_z}
 use Rattle.language.specs.Expressions.{Number, Truth, sum, difference, equal, less, negation, conjunction, disjunction, eqZ, two, judged, byte_at, number_operator, number_operands, read_number, truth_operator, truth_operands, read_truth}

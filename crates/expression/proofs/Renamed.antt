@@ -1,4 +1,4 @@
--- One byte of a written expression whose names are exchanged, and the whole. Assumes nothing.
+-- One byte of a written expression whose names are exchanged, and the whole.
 use Rattle.std.proofs.Common.{◌≡◌, ℕ, ◌+◌, ◌<◌, List, [], ◌∷◌, ◌++◌, length, get_or, take, drop, set, sym, ap, ◌∙◌, ap₂, arith}
 use Rattle.std.proofs.lemmas.List.{append-nil, append_assoc, take_all, drop_all, take_more_set, drop-set-lt, drop_more}
 use Rattle.language.proofs.Renaming.{renaming_exchanges_names}

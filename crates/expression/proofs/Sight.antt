@@ -1,4 +1,4 @@
--- Sets of names that hold the names seen. Assumes nothing.
+-- Sets of names that hold the names seen.
 use Rattle.std.proofs.Common.{◌≡◌, ℕ, Bool, ap₂}
 use mathlib.Core.Path.{fun_ext}
 use Rattle.language.specs.Expressions.{Seen as Sight}

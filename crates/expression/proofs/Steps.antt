@@ -1,4 +1,4 @@
--- One step of reading an expression, by what stands at its place. Assumes nothing.
+-- One step of reading an expression, by what stands at its place.
 use Rattle.std.proofs.Common.{◌≡◌, ℕ, zero, suc, ◌+◌, ◌-◌, ◌<◌, ◌≤◌, List, length, Some, None, Option, Result, Err, sym, refl, ap, ◌∙◌, arith}
 use Rattle.std.specs.List.{slice_get}
 use Rattle.std.specs.Option.{ok_or, SomeIff}

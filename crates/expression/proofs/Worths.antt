@@ -1,4 +1,4 @@
--- What expressions are worth, by their operators. Assumes nothing.
+-- What expressions are worth, by their operators.
 use Rattle.std.proofs.Common.{◌≡◌, ℕ, suc, ◌+◌, ◌*◌, ◌^◌, ◌≤◌, max, Bool, true, false, eqb, leb, List, ℤ, pos, negsuc, ◌+ℤ◌, ◌-ℤ◌, Some, None, Option, sym, refl, ap, ◌∙◌, subst, ap₂, pow-suc, arith, lit≤, pow_mono, w16, SFits, to_z, of_z}
 use lib.Signed.{lt_z}
 use borrow.Author.Differences.{up, down, ints}

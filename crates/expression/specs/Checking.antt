@@ -1,4 +1,4 @@
--- What the checks answer. Assumes nothing.
+-- What the checks answer.
 use Rattle.std.specs.Prelude.{ℕ, Bool, cond, List, Some, None, Ok, Err, Option, Result, ◌==◌}
 use Rattle.language.specs.Expressions.{Seen as Sight, Reading, good, bad, old_value, as_name, read_byte}
 use Rattle.model.specs.Sets.{has}

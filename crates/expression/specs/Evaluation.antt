@@ -1,4 +1,4 @@
--- What the evaluator answers. Assumes nothing.
+-- What the evaluator answers.
 use Rattle.std.specs.Prelude.{◌≡◌, ℕ, ◌+◌, ◌≤◌, Bool, true, false, cond, List, length, ℤ, pos, negsuc, ◌≤ℤ◌, Some, None, Option, ◌==◌}
 use Rattle.language.specs.Expressions.{Number, Truth, Seen, number_bytes, truth_bytes, number_value, truth_value, number_right, truth_right, byte_at, Reading, good, bad, two, read_number, read_truth, whole_number, whole_truth}
 use Rattle.expression.specs.declared.evaluator.Evaluator.{Evaluator}

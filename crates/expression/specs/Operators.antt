@@ -1,4 +1,4 @@
--- What the operators of the code stand for. Assumes nothing.
+-- What the operators of the code stand for.
 use Rattle.std.specs.Prelude.{◌≡◌, ℕ, Some, None, Option, Result, MatchResult}
 use Rattle.language.specs.Expressions.{NumberOperation, constant_follows, old_name_follows, new_name_follows, plus, minus, TruthOperation, equals, less_than, not_follows, and_follows, or_follows, is_true}
 use Rattle.expression.specs.declared.operators.NoOperator.{NoOperator}

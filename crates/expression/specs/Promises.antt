@@ -1,4 +1,4 @@
--- What the checks promise of written forms, for numbers and for truths. Assumes nothing.
+-- What the checks promise of written forms, for numbers and for truths.
 use Rattle.std.specs.Prelude.{◌≡◌, ℕ, ◌+◌, ◌<◌, ◌≤◌, Bool, true, List, length, take, Ok, Err, Result}
 use Rattle.language.specs.Expressions.{Seen, number_bytes, truth_bytes, number_right, truth_right, Reading, to_the_end, expression_fault, read_number, read_truth}
 use Rattle.language.specs.Fronts.{Same}

@@ -1,4 +1,4 @@
--- What the exchange of two names does to a written expression. Assumes nothing.
+-- What the exchange of two names does to a written expression.
 use Rattle.std.specs.Prelude.{◌≡◌, ℕ, List}
 use Rattle.language.specs.Expressions.{Number, Truth, number_bytes, truth_bytes, number_renamed, truth_renamed, Next as Coming, operator, value, name}
 use Rattle.expression.specs.declared.renaming.Next.{Next}

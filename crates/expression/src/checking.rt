@@ -1,4 +1,4 @@
-// Whether bytes are a right expression, and else where the first fault lies.
+//! Whether bytes are a right expression, and else where the first fault lies.
 ghost use Rattle.expression.specs.Checking.{seen_of, read_end, name_end, ended, checked};
 ghost use Rattle.expression.specs.Promises.{NumberJudged, TruthJudged};
 ghost use Rattle.language.specs.Expressions.{read_byte, as_constant, read_number, read_truth, whole_number, whole_truth, expression_fault};
@@ -8,7 +8,7 @@ ghost use Rattle.std.specs.Prelude.{◌≡◌, length};
 use crate::operators::{LEVELS, NumberOperator, TruthOperator, byte_at};
 use model::Names;
 
-// The names whose old values, and those whose new values, an expression may use.
+/// The names whose old values, and those whose new values, an expression may use.
 #[derive(Clone, Copy)]
 pub struct Seen {
     pub old: Names,
@@ -94,7 +94,7 @@ impl Checker<'_> {
     }
 }
 
-// Are the bytes a right number that sees only these names? Else the place of the first fault.
+/// Are the bytes a right number that sees only these names? Else the place of the first fault.
 pub fn check_number(bytes: &[u8], seen: &Seen) -> Result<(), usize>
     ensures told { result ≡ checked (expression_fault (whole_number 8 (seen_of seen.now) bytes.now)) }
     ensures judged { NumberJudged (seen_of seen.now) bytes.now result }
@@ -104,7 +104,7 @@ pub fn check_number(bytes: &[u8], seen: &Seen) -> Result<(), usize>
     checker.to_the_end(end)
 }
 
-// Are the bytes a right truth that sees only these names? Else the place of the first fault.
+/// Are the bytes a right truth that sees only these names? Else the place of the first fault.
 pub fn check_truth(bytes: &[u8], seen: &Seen) -> Result<(), usize>
     ensures told { result ≡ checked (expression_fault (whole_truth 8 (seen_of seen.now) bytes.now)) }
     ensures judged { TruthJudged (seen_of seen.now) bytes.now result }

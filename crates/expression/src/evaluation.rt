@@ -1,5 +1,5 @@
-// What expressions are worth at old and new values. Each function makes its evaluator, at values of which it knows that they are
-// bytes: one that made it for both would be passed references, where that is not known and would be required (tried).
+//! What expressions are worth at old and new values. Each function makes its evaluator, at values of which it knows that they are
+//! bytes: one that made it for both would be passed references, where that is not known and would be required (tried).
 ghost use Rattle.std.specs.Prelude.{◌≡◌};
 ghost use Rattle.expression.specs.Evaluation.{evaluated_number, evaluated_truth, NumberEvaluated, TruthEvaluated};
 
@@ -7,7 +7,7 @@ use crate::evaluator::Evaluator;
 use crate::operators::LEVELS;
 use model::State;
 
-// What a right number is worth at these values; 0 if the bytes are no right number, whatever names are seen.
+/// What a right number is worth at these values; 0 if the bytes are no right number, whatever names are seen.
 pub fn number_value(bytes: &[u8], old: State, new: State) -> i16
     ensures evaluated { result ≡ evaluated_number bytes.now old new }
     ensures means { NumberEvaluated bytes.now old new result }
@@ -21,7 +21,7 @@ pub fn number_value(bytes: &[u8], old: State, new: State) -> i16
     evaluator.whole_number()
 }
 
-// Whether a right truth holds at these values; false if the bytes are no right truth, whatever names are seen.
+/// Whether a right truth holds at these values; false if the bytes are no right truth, whatever names are seen.
 pub fn truth_value(bytes: &[u8], old: State, new: State) -> bool
     ensures evaluated { result ≡ evaluated_truth bytes.now old new }
     ensures means { TruthEvaluated bytes.now old new result }

@@ -1,4 +1,4 @@
-// Bytes that are read as an expression, the old and new values that it sees, and how many levels deep it may nest.
+//! Bytes that are read as an expression, the old and new values that it sees, and how many levels deep it may nest.
 ghost use Rattle.model.specs.Meanings.{Bytes};
 ghost use Rattle.model.specs.States.{value};
 ghost use Rattle.std.specs.Prelude.{◌≤◌};

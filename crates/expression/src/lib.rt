@@ -1,4 +1,4 @@
-// Expressions written as bytes: whether they are right, what they are worth, and the exchange of two names in them.
+//! Expressions written as bytes: whether they are right, what they are worth, and the exchange of two names in them.
 #![tactic(auto)]
 
 mod checking;

@@ -1,4 +1,4 @@
-// The operators of expressions, each by its byte.
+//! The operators of expressions, each by its byte.
 ghost use Rattle.expression.specs.Operators.{number_operator_of, number_meant, truth_operator_of, truth_meant, StandsFor};
 ghost use Rattle.language.specs.Expressions.{byte_at, judged, number_operator, truth_operator};
 ghost use Rattle.std.specs.Prelude.{◌≡◌};
@@ -6,10 +6,10 @@ ghost use Rattle.std.specs.Prelude.{◌≡◌};
 use std::error::Error;
 use std::fmt;
 
-// The most levels that an expression may nest.
+/// The most levels that an expression may nest.
 pub const LEVELS: u8 = 8;
 
-// What a number begins with: a byte that says whether a constant, a name or two numbers follow.
+/// What a number begins with: a byte that says whether a constant, a name or two numbers follow.
 #[derive(Clone, Copy, PartialEq, Eq, Debug)]
 pub enum NumberOperator {
     Constant,
@@ -19,7 +19,7 @@ pub enum NumberOperator {
     Difference,
 }
 
-// What a truth begins with: two numbers follow, one truth, two truths or nothing.
+/// What a truth begins with: two numbers follow, one truth, two truths or nothing.
 #[derive(Clone, Copy, PartialEq, Eq, Debug)]
 pub enum TruthOperator {
     Equal,
@@ -30,7 +30,7 @@ pub enum TruthOperator {
     True,
 }
 
-// The byte is no such operator.
+/// The byte is no such operator.
 #[derive(Clone, Copy, PartialEq, Eq, Debug)]
 pub struct NoOperator;
 
@@ -66,8 +66,8 @@ impl TryFrom<u8> for NumberOperator {
 }
 
 impl NumberOperator {
-    // As for truths. One `operator_at<O: TryFrom<u8, Error = NoOperator>>` that both call is proved (tried), but is twelve lines
-    // longer with its contract over that of O's `try_from`: each kind keeps an `at`, to say what its operators mean.
+    /// As for truths. One `operator_at<O: TryFrom<u8, Error = NoOperator>>` that both call is proved (tried), but is twelve lines
+    /// longer with its contract over that of O's `try_from`: each kind keeps an `at`, to say what its operators mean.
     pub fn at(bytes: &[u8], place: usize) -> Option<NumberOperator>
         ensures { number_meant result ≡ judged number_operator (byte_at bytes.now place) }
     {

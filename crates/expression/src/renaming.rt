@@ -1,4 +1,4 @@
-// The exchange of two names in a written expression.
+//! The exchange of two names in a written expression.
 ghost use Rattle.expression.specs.Renaming.{next_of, NamesExchanged};
 ghost use Rattle.language.specs.Expressions.{operator, following, bytes_renamed};
 ghost use Rattle.std.specs.Prelude.{◌≡◌};
@@ -26,7 +26,7 @@ impl Next {
     }
 }
 
-// Puts b for each name a of a written expression, and a for each b. Constants stay as they are.
+/// Puts b for each name a of a written expression, and a for each b. Constants stay as they are.
 pub fn rename(bytes: &mut [u8], a: u8, b: u8)
     ensures renamed { bytes.new ≡ bytes_renamed a b operator bytes.old }
     ensures means { NamesExchanged a b bytes.old bytes.new }

@@ -1,4 +1,4 @@
-// Long expressions, put together from parts, and what is seen of names.
+//! Long expressions, put together from parts, and what is seen of names.
 use expression::Seen;
 use model::Names;
 use std::alloc::Global;
@@ -11,7 +11,7 @@ pub fn nothing_seen() -> Seen {
     }
 }
 
-// Each of the parts so many times, one after the other.
+/// Each of the parts so many times, one after the other.
 pub fn repeated(alloc: Global, parts: &[(&[u8], usize)]) -> Result<Vec<u8>, Fail> {
     let mut bytes = Vec::new(alloc);
     for (part, times) in parts {

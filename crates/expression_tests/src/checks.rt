@@ -1,4 +1,4 @@
-// Right and wrong expressions, and where the first fault lies.
+//! Right and wrong expressions, and where the first fault lies.
 use crate::building::{nothing_seen, repeated};
 use expression::{Seen, check_number, check_truth};
 use model::Names;

@@ -1,4 +1,4 @@
-// The exchange of two names.
+//! The exchange of two names.
 use expression::rename;
 use std::test::Fail;
 

@@ -1,4 +1,4 @@
-// Tests of expressions written as bytes. The expected answers are worked out by hand.
+//! Tests of expressions written as bytes. The expected answers are worked out by hand.
 #![tactic(auto)]
 
 #[cfg(test)]

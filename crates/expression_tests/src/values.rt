@@ -1,4 +1,4 @@
-// What expressions are worth.
+//! What expressions are worth.
 use crate::building::{nothing_seen, repeated};
 use expression::{check_number, number_value, truth_value};
 use model::State;

@@ -1,4 +1,4 @@
--- Atoms that fail in either of two ways. Assumes nothing.
+-- Atoms that fail in either of two ways.
 use Rattle.std.proofs.Common.{◌≡◌, ℕ, ◌<◌, Bool, true, false, ◌&&◌, ◌||◌, List, [], ◌∷◌, Some, None, Option, leb, le-leb, sym, refl, ap, ◌∙◌, ap₂, ⊎_elim}
 use Rattle.std.proofs.lemmas.Bool.{and_right, cases_lt, true≢false}
 use Rattle.model.specs.Meanings.{Meaning}

@@ -1,4 +1,4 @@
--- Products by steps, and products that stop growing at a limit. Assumes nothing.
+-- Products by steps, and products that stop growing at a limit.
 use Rattle.std.proofs.Common.{◌≡◌, ℕ, zero, suc, ◌+◌, ◌*◌, ◌<◌, ◌≤◌, min, sym, ap, ◌∙◌, ⊎_elim, mul-le-mul_left, mul-zero, mul-one, add-one, arith}
 use Rattle.std.proofs.lemmas.Bool.{cases_lt}
 use Rattle.units.specs.Counting.{product}

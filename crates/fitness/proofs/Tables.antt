@@ -1,4 +1,4 @@
--- Which atoms a table's sets hold. Assumes nothing.
+-- Which atoms a table's sets hold.
 use Rattle.std.proofs.Common.{◌≡◌, ℕ, ◌<◌, ◌≤◌, Bool, ◌&&◌, List, Some, None, ltb, get_or, length, slice_get, ap, subst, ◌∙◌, ⊎_elim, arith}
 use Rattle.std.proofs.lemmas.Bool.{and_from, lt-ltb}
 use Rattle.std.proofs.lemmas.Option.{slice_get_cases}

@@ -1,4 +1,4 @@
--- The numbers of the checks. Assumes nothing.
+-- The numbers of the checks.
 use Rattle.std.specs.Prelude.{ℕ}
 use Rattle.fitness.specs.declared.check.Check.{Check}
 use Rattle.fitness.specs.declared.check.Check.TheVariants.{Control, Circle, Sight, Stuck, Outside, Width}

@@ -1,4 +1,4 @@
--- The factors of the products that sealing judges, by name or atom. Assumes nothing.
+-- The factors of the products that sealing judges, by name or atom.
 use Rattle.std.specs.Prelude.{◌≡◌, ℕ, ◌*◌, ◌<◌, max}
 use Rattle.model.specs.Meanings.{OutlineFacts, Meaning}
 use Rattle.model.specs.declared.Round.TheVariants.{Initial, Update}

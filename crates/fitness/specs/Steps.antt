@@ -1,4 +1,4 @@
--- Atoms that await each other, one step at a time. Assumes nothing.
+-- Atoms that await each other, one step at a time.
 use Rattle.std.specs.Prelude.{◌≡◌, ℕ, zero, suc, Bool, false, Some, None, Option, ◌&&◌, ◌||◌, nat_lt, slice_get}
 use Rattle.model.specs.Meanings.{OutlineFacts}
 use Rattle.model.specs.Sets.{has}

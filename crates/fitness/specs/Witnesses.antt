@@ -1,4 +1,4 @@
--- Values at which an atom fails, looked for only where it does not see too many. Assumes nothing.
+-- Values at which an atom fails, looked for only where it does not see too many.
 use Rattle.std.specs.Prelude.{◌≡◌, ℕ, false, cond, None, Option}
 use Rattle.model.specs.Meanings.{OutlineFacts, Meaning}
 use Rattle.sights.specs.Sights.{first_sight, SightTold}

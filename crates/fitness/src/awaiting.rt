@@ -1,5 +1,5 @@
-// No atom awaits itself, directly or through others. The atoms that await a given one are gathered step by step:
-// first those that await it directly, then those that do so through at most one other, and so on.
+//! No atom awaits itself, directly or through others. The atoms that await a given one are gathered step by step:
+//! first those that await it directly, then those that do so through at most one other, and so on.
 ghost use Rattle.std.specs.Prelude.{◌≡◌, ℕ, ◌&&◌, nat_lt};
 ghost use Rattle.fitness.specs.Steps.{direct, leads_to, through};
 ghost use Rattle.model.specs.Sets.{has};
@@ -7,8 +7,7 @@ ghost use Rattle.model.specs.Tests.{lowest};
 ghost use Rattle.units.specs.Sealing.{circular};
 
 use crate::table::Table;
-use drawing::{Drawing, Outline};
-use model::{Names, any_below, lowest_below};
+use model::{Drawing, Names, Outline, any_below, lowest_below};
 
 // Does the atom await the goal, directly or through one of those behind?
 fn leads_to(table: &Table, behind: &Names, goal: u8, atom: u8) -> bool
@@ -45,7 +44,7 @@ fn is_circular(table: &Table, atom: u8) -> bool
     all_behind(table, atom).has(atom)
 }
 
-// The lowest atom that awaits itself, directly or through others.
+/// The lowest atom that awaits itself, directly or through others.
 pub fn lowest_circular<D: Drawing>(drawing: &D) -> Option<u8>
     ensures { result ≡ lowest (circular (D.Outline.outline drawing.now)) (D.Outline.outline drawing.now).atoms }
 {

@@ -1,11 +1,11 @@
-// The checks that sealing makes, and how each refuses.
+//! The checks that sealing makes, and how each refuses.
 ghost use Rattle.std.specs.Prelude.{◌≡◌};
 ghost use Rattle.fitness.specs.Checks.{number_of};
 ghost use Rattle.units.specs.Sealing.{at_lowest, if_so};
 
 use model::Fault;
 
-// In the order in which they are made, with the numbers of their refusals.
+/// In the order in which they are made, with the numbers of their refusals.
 #[derive(Clone, Copy, PartialEq, Eq, Debug)]
 pub enum Check {
     Control = 12,
@@ -17,7 +17,7 @@ pub enum Check {
 }
 
 impl Check {
-    // A refusal at the place, if there is one.
+    /// A refusal at the place, if there is one.
     pub fn refused_at(self, place: Option<u8>) -> Option<Fault>
         ensures { result ≡ at_lowest (number_of self) place }
     {

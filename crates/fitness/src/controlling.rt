@@ -1,10 +1,9 @@
-// Each private or interface name is controlled by exactly one atom.
+//! Each private or interface name is controlled by exactly one atom.
 ghost use Rattle.model.specs.Tests.{lowest};
 ghost use Rattle.units.specs.Sealing.{controllers, badly_controlled};
 ghost use Rattle.std.specs.Prelude.{◌≡◌};
 
-use drawing::Outline;
-use model::{Kind, count_below, lowest_below};
+use model::{Kind, Outline, count_below, lowest_below};
 
 // How many atoms control the name.
 fn count_controllers<D: Outline>(drawing: &D, name: u8) -> u8
@@ -20,7 +19,7 @@ fn is_badly_controlled<D: Outline>(drawing: &D, name: u8) -> bool
         && count_controllers(drawing, name) != 1
 }
 
-// The lowest private or interface name that not exactly one atom controls.
+/// The lowest private or interface name that not exactly one atom controls.
 pub fn lowest_badly_controlled<D: Outline>(drawing: &D) -> Option<u8>
     ensures { result ≡ lowest (badly_controlled (D.Outline.outline drawing.now)) 32 }
 {

@@ -1,5 +1,5 @@
-// The verdict: the first check that finds something, at the lowest name or atom. What an atom does at all values that it sees
-// is looked at only where they are few enough.
+//! The verdict: the first check that finds something, at the lowest name or atom. What an atom does at all values that it sees
+//! is looked at only where they are few enough.
 ghost use Rattle.std.specs.Prelude.{◌≡◌};
 ghost use Rattle.units.specs.Sealing.{verdict};
 
@@ -9,10 +9,9 @@ use crate::controlling::lowest_badly_controlled;
 use crate::looking::failure;
 use crate::sight::lowest_sees_too_much;
 use crate::width::too_wide;
-use drawing::{Drawing, Outline};
-use model::Fault;
+use model::{Drawing, Fault, Outline};
 
-// What is wrong with the drawing, if anything.
+/// What is wrong with the drawing, if anything.
 pub fn judge<D: Drawing>(drawing: &D) -> Option<Fault>
     ensures { result ≡ verdict (D.Drawing.meaning drawing.now) }
 {

@@ -1,4 +1,4 @@
-// What sealing judges of a drawing: each check by a function of its own, and the verdict in their order.
+//! What sealing judges of a drawing: each check by a function of its own, and the verdict in their order.
 #![tactic(auto)]
 
 mod awaiting;

@@ -1,12 +1,11 @@
-// At all values in range of what it sees, each atom has an open choice, and what an open one gives is in range.
+//! At all values in range of what it sees, each atom has an open choice, and what an open one gives is in range.
 ghost use Rattle.std.specs.Prelude.{◌≡◌, ℕ, ◌<◌, false};
 ghost use Rattle.model.specs.Tests.{lowest};
 ghost use Rattle.sights.specs.Sights.{test_of};
 ghost use Rattle.units.specs.Sealing.{in_some_round, gets_stuck, leaves_range, at_lowest, ◌else◌};
 
 use crate::check::Check;
-use drawing::{Drawing, Outline};
-use model::{Fault, lowest_below};
+use model::{Drawing, Fault, Outline, lowest_below};
 use sights::{Test, first_sight};
 
 // Is what is looked for so at some values in range of what the atom sees?
@@ -16,7 +15,7 @@ fn is_found<D: Drawing>(drawing: &D, test: Test, atom: u8) -> bool
     first_sight(drawing, test, atom).is_some()
 }
 
-// The lowest atom of which what is looked for is so at some values in range of what it sees.
+/// The lowest atom of which what is looked for is so at some values in range of what it sees.
 pub fn lowest_found<D: Drawing>(drawing: &D, test: Test) -> Option<u8>
     ensures { result ≡ lowest (in_some_round (D.Drawing.meaning drawing.now) (test_of test)) (D.Outline.outline drawing.now).atoms }
 {
@@ -34,8 +33,8 @@ fn lowest_stuck_from<D: Drawing>(drawing: &D, from: u8) -> Option<u8>
     )
 }
 
-// The refusal of the lowest atom that gets stuck, or else of the lowest that leaves its range. All values are gone through once
-// for both, but for those of the first atom that fails: no atom below it gets stuck.
+/// The refusal of the lowest atom that gets stuck, or else of the lowest that leaves its range. All values are gone through once
+/// for both, but for those of the first atom that fails: no atom below it gets stuck.
 pub fn failure<D: Drawing>(drawing: &D) -> Option<Fault>
     ensures { result ≡ (at_lowest 15 (lowest (gets_stuck (D.Drawing.meaning drawing.now)) (D.Outline.outline drawing.now).atoms) else at_lowest 16 (lowest (leaves_range (D.Drawing.meaning drawing.now)) (D.Outline.outline drawing.now).atoms)) }
 {

@@ -1,12 +1,11 @@
-// The values that an atom sees are at most 65,536; a name that it both reads and awaits counts twice.
+//! The values that an atom sees are at most 65,536; a name that it both reads and awaits counts twice.
 ghost use Rattle.std.specs.Prelude.{◌≡◌};
 ghost use Rattle.fitness.specs.Factors.{seen_values};
 ghost use Rattle.model.specs.Tests.{lowest};
 ghost use Rattle.units.specs.Sealing.{sees_too_much};
 
 use crate::products::{product_below, values};
-use drawing::Outline;
-use model::lowest_below;
+use model::{Outline, lowest_below};
 
 // How many values an atom may see.
 const MOST: u64 = 65_536;
@@ -26,7 +25,7 @@ pub fn sees_too_many<D: Outline>(drawing: &D, atom: u8) -> bool
     product_below(32, MOST + 1, |name| values_seen(drawing, atom, name)) > MOST
 }
 
-// The lowest atom that sees more than 65,536 values.
+/// The lowest atom that sees more than 65,536 values.
 pub fn lowest_sees_too_much<D: Outline>(drawing: &D) -> Option<u8>
     ensures { result ≡ lowest (sees_too_much (D.Outline.outline drawing.now)) (D.Outline.outline drawing.now).atoms }
 {

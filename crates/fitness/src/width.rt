@@ -1,12 +1,11 @@
-// The width, the product of the external names' values and of each atom's larger choice count, is at most 1,048,576.
+//! The width, the product of the external names' values and of each atom's larger choice count, is at most 1,048,576.
 ghost use Rattle.std.specs.Prelude.{◌≡◌, min};
 ghost use Rattle.fitness.specs.Factors.{external_values, larger_count};
 ghost use Rattle.units.specs.Counting.{product};
 ghost use Rattle.units.specs.Sealing.{too_wide};
 
 use crate::products::{product_below, times, values};
-use drawing::{Drawing, Outline};
-use model::{Kind, Round};
+use model::{Drawing, Kind, Outline, Round};
 
 // How wide a drawing may be, and one more.
 const MOST: u64 = 1_048_576;
@@ -43,7 +42,7 @@ fn inner_width<D: Drawing>(drawing: &D) -> u64
     )
 }
 
-// Is the width more than 1,048,576?
+/// Is the width more than 1,048,576?
 pub fn too_wide<D: Drawing>(drawing: &D) -> bool
     ensures { result ≡ too_wide (D.Drawing.meaning drawing.now) }
 {

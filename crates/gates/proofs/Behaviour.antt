@@ -1,4 +1,4 @@
--- Gates work as their atoms' choices have it. Assumes nothing.
+-- Gates work as their atoms' choices have it.
 use Rattle.std.proofs.Common.{◌≡◌, ℕ, zero, suc, ◌<◌, ◌≤◌, true, ◌⊎◌, List, [], ◌∷◌, ◌++◌, sym, refl, inl, inr, ⊎_elim, arith}
 use Rattle.std.proofs.ByRecursion.{All-append}
 use Rattle.std.proofs.lemmas.Bool.Decides.{nat_tests}

@@ -1,4 +1,4 @@
--- Opening a gate list, record by record. Assumes nothing.
+-- Opening a gate list, record by record.
 use Rattle.std.proofs.Common.{◌≡◌, ℕ, zero, suc, ◌+◌, ◌*◌, ◌/◌, ◌%◌, ◌<◌, ◌≤◌, Bool, true, false, not, ◌&&◌, ◌||◌, ◌⊎◌, inl, inr, ⊎_elim, ltb, List, [], ◌++◌, length, get_or, drop, is_some, Some, None, Result, Ok, Err, Decides, ◌==◌, ◌≢◌, sym, refl, ap, ◌∙◌, subst, le_of_suc-le-suc, not-suc-le-zero, add-zero, add-one, arith}
 use Rattle.std.specs.Simd.{first_chunks}
 use Rattle.std.proofs.lemmas.List.{length-append, get_or-take, get_or-drop}

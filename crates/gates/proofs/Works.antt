@@ -1,4 +1,4 @@
--- A gate list's initial states and successors are those in which its gates have worked. Assumes nothing.
+-- A gate list's initial states and successors are those in which its gates have worked.
 use Rattle.std.proofs.Common.{◌≡◌, ℕ, zero, suc, ◌/◌, ◌<◌, ◌≤◌, true, false, cond, eqb, ltb, ◌↔◌, List, [], ◌∷◌, length, pos, is_some, Some, None, Option, Result, Ok, Err, sym, refl, ap, ◌∙◌, subst, arith}
 use Rattle.std.proofs.lemmas.Bool.{and_parts, eqb-true, ltb-true, cond-true}
 use Rattle.std.proofs.lemmas.Option.{slice_get_within}

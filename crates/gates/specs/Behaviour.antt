@@ -1,4 +1,4 @@
--- How gates behave, in the words of an electrician: what each gate's wires show after a round. Assumes nothing.
+-- How gates behave, in the words of an electrician: what each gate's wires show after a round.
 use Rattle.std.specs.Prelude.{◌≡◌, ℕ, ◌/◌, true, ◌↔◌, List, length, None}
 use Rattle.std.specs.List.{AllByRecursion}
 use Rattle.model.specs.Meanings.{Valuation, Meaning}

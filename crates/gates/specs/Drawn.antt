@@ -1,4 +1,4 @@
--- The meaning of an opened gate list. Assumes nothing.
+-- The meaning of an opened gate list.
 use Rattle.std.specs.Prelude.{◌≡◌, ◌≤◌, ℕ, true, length, Result, Ok, Err, refl}
 use Rattle.std.proofs.Common.{arith}
 use Rattle.std.proofs.lemmas.Bool.{both_ways}

@@ -1,4 +1,4 @@
--- Gates and the atoms that they are made of. Assumes nothing.
+-- Gates and the atoms that they are made of.
 use Rattle.std.specs.Prelude.{◌≡◌, ℕ, Bool, false, cond, ◌&&◌, ◌||◌, List, [], ◌∷◌, Some, None, Option, Result, MatchResult, ◌==◌, nat_lt, slice_index}
 use Rattle.std.specs.List.{list_any, list_all}
 use Rattle.model.specs.Meanings.{Valuation}

@@ -1,4 +1,4 @@
--- A gate list keeps the laws of drawings. Assumes nothing.
+-- A gate list keeps the laws of drawings.
 use Rattle.std.specs.Prelude.{◌≡◌, ℕ, zero, suc, ◌<◌, ◌≤◌, Bool, true, false, cond, ◌&&◌, ◌||◌, T, ◌⊎◌, List, [], ◌∷◌, length, pos, negsuc, ◌≤ℤ◌, is_some, Some, None, Option, ◌==◌, ◌≢◌, nat_lt, refl}
 use Rattle.std.proofs.Common.{inl, inr, ⊎_elim, sym, ap, ap₂, subst, ◌∙◌, le_of_suc-le-suc, not-suc-le-zero, arith}
 use Rattle.std.specs.Int.Signed.{le_z_yes}

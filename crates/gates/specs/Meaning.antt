@@ -1,4 +1,4 @@
--- What a gate list means. Assumes nothing.
+-- What a gate list means.
 use Rattle.std.specs.Prelude.{ℕ, Bool, false, cond, List, length, ℤ, pos, is_some, Some, None, Option}
 use Rattle.std.specs.List.{slice_get}
 use Rattle.model.specs.Meanings.{Valuation, OutlineFacts, ChoiceFacts}

@@ -1,4 +1,4 @@
--- What an opened gate list holds. Assumes nothing.
+-- What an opened gate list holds.
 use Rattle.std.specs.Prelude.{ℕ, None, Result, Ok, Err}
 use Rattle.model.specs.Rows.{listed}
 use Rattle.model.specs.declared.row.Row.{Row}

@@ -1,4 +1,4 @@
--- A list as records of five bytes. Assumes nothing.
+-- A list as records of five bytes.
 use Rattle.std.specs.Prelude.{ℕ, ◌<◌, Bool, not, ◌&&◌, ◌||◌, ◌⊎◌, List, [], length, Some, ◌==◌, IsTrue, slice_index, slice_index_or}
 use Rattle.gates.specs.GateLists.{is_latch}
 use Rattle.gates.specs.declared.gate.Gate.{Gate}

@@ -1,4 +1,4 @@
--- Rows of parts, and what is found of a list: its parts, or the place of its fault. Assumes nothing.
+-- Rows of parts, and what is found of a list: its parts, or the place of its fault.
 use Rattle.std.specs.Prelude.{◌≡◌, ◌<◌, ℕ, List, [], ◌++◌, length, Result, Ok, Err, MatchResult}
 use Rattle.model.specs.Rows.{listed}
 use Rattle.model.specs.declared.row.Full.{Full}

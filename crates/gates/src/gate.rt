@@ -1,4 +1,4 @@
-// The gates, and the atoms that they are made of.
+//! The gates, and the atoms that they are made of.
 ghost use Rattle.std.specs.Prelude.{◌≡◌, ℕ};
 ghost use Rattle.gates.specs.Gates.{Describes, uses, controls_of, reads_of, awaits_of, choices_of, opens_of, gives_of};
 ghost use Rattle.model.specs.Sets.{has};
@@ -8,8 +8,8 @@ use model::{Names, Round, State, value_of};
 use std::error::Error;
 use std::fmt;
 
-// A gate by the names of its wires. A latch stores a bit under a name of its own: `set` turns it on,
-// `reset` off, and `out` shows what was stored.
+/// A gate by the names of its wires. A latch stores a bit under a name of its own: `set` turns it on,
+/// `reset` off, and `out` shows what was stored.
 #[derive(Clone, Copy, PartialEq, Eq, Debug)]
 pub enum Gate {
     Not {
@@ -29,7 +29,7 @@ pub enum Gate {
     },
 }
 
-// Five bytes that describe no gate.
+/// Five bytes that describe no gate.
 #[derive(Clone, Copy, PartialEq, Eq, Debug)]
 pub struct Malformed;
 
@@ -65,7 +65,7 @@ impl TryFrom<[u8; 5]> for Gate {
     }
 }
 
-// One atom of a gate. NOT and AND are one atom each; a latch is two, its output and its store.
+/// One atom of a gate. NOT and AND are one atom each; a latch is two, its output and its store.
 #[derive(Clone, Copy, PartialEq, Eq, Debug)]
 pub enum Part {
     Inverter { a: u8, out: u8 },
@@ -74,7 +74,7 @@ pub enum Part {
     LatchStore { set: u8, reset: u8, own: u8 },
 }
 
-// The places at which a gate can name a wire.
+/// The places at which a gate can name a wire.
 #[derive(Clone, Copy, PartialEq, Eq, Debug)]
 pub enum Field {
     Input,
@@ -162,7 +162,7 @@ impl Part {
         }
     }
 
-    // What the choice gives to the name that the part controls.
+    /// What the choice gives to the name that the part controls.
     pub fn gives(self, round: Round, choice: u8, old: State) -> u8
         ensures { result ≡ gives_of round self choice (value old) }
     {

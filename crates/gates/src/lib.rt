@@ -1,4 +1,4 @@
-// Gate lists: a drawing written as records of five bytes, each a gate.
+//! Gate lists: a drawing written as records of five bytes, each a gate.
 #![tactic(auto)]
 
 mod gate;

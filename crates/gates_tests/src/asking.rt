@@ -1,17 +1,16 @@
-// Questions that the tests ask of a list, each about every number that can be asked after.
-use drawing::{Drawing, Outline};
+//! Questions that the tests ask of a list, each about every number that can be asked after.
 use gates::GateList;
-use model::{Fault, Kind, Round, State};
+use model::{Drawing, Fault, Kind, Outline, Round, State};
 use samples::{Moment, has_sets, opens_just};
 use std::process::Abort;
 
-// Every fault of a gate list has number 18 and layer 0.
+/// Every fault of a gate list has number 18 and layer 0.
 pub fn check_fault(rt: &impl Abort, bytes: &[u8], place: Option<u16>) {
     let fault = place.map(|place| Fault::own(18, place));
     assert_eq!(rt; GateList::open(bytes).fault(), fault, "{bytes:?}");
 }
 
-// The names of a drawing by their kinds.
+/// The names of a drawing by their kinds.
 #[derive(Clone, Copy)]
 pub struct Variables<'a> {
     pub external: &'a [u8],
@@ -30,7 +29,7 @@ fn has_just(list: &GateList, variables: Variables) -> bool {
     })
 }
 
-// The names that an atom controls, reads and awaits, and the number of its choices in an initialization and in an update.
+/// The names that an atom controls, reads and awaits, and the number of its choices in an initialization and in an update.
 #[derive(Clone, Copy)]
 pub struct Told<'a>(pub [&'a [u8]; 3], pub [u8; 2]);
 
@@ -51,14 +50,14 @@ fn is_absent(list: &GateList, atom: u8) -> bool {
 
 const ROUNDS: [Round; 2] = [Round::Initial, Round::Update];
 
-// The same in both rounds, whatever the old values.
+/// The same in both rounds, whatever the old values.
 pub fn opens_always(list: &GateList, atom: u8, new: State, open: &[u8]) -> bool {
     [[0; 32], [1; 32], [2; 32]].iter().all(|old| {
         ROUNDS.iter().all(|round| opens_just(list, atom, Moment(*round, *old, new), open))
     })
 }
 
-// Do the atom's choices 0, 1 and 2 give these numbers to this name, and is everything else 0?
+/// Do the atom's choices 0, 1 and 2 give these numbers to this name, and is everything else 0?
 pub fn gives_just(
     list: &GateList,
     round: Round,
@@ -77,7 +76,7 @@ pub fn gives_just(
     })
 }
 
-// The same in both rounds, whatever the old values.
+/// The same in both rounds, whatever the old values.
 pub fn gives_always(list: &GateList, atom: u8, name: u8, given: [i16; 3]) -> bool {
     [[0; 32], [1; 32]].iter().all(|old| {
         ROUNDS
@@ -86,7 +85,7 @@ pub fn gives_always(list: &GateList, atom: u8, name: u8, given: [i16; 3]) -> boo
     })
 }
 
-// Are these the variables and the atoms of the list?
+/// Are these the variables and the atoms of the list?
 pub fn has_outline(list: &GateList, variables: Variables, atoms: &[(u8, Told)]) -> bool {
     list.layers() == 1
         && list.atoms() as usize == atoms.len()

@@ -1,5 +1,5 @@
-// Tests of gate lists through what every drawing tells. The expected answers are worked out by hand from the rules
-// of the format.
+//! Tests of gate lists through what every drawing tells. The expected answers are worked out by hand from the rules
+//! of the format.
 #![tactic(auto)]
 
 #[cfg(test)]

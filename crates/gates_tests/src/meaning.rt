@@ -1,4 +1,4 @@
-// What opened lists tell.
+//! What opened lists tell.
 use crate::asking::{Told, Variables, gives_always, gives_just, has_outline, opens_always};
 use gates::GateList;
 use model::{Round, State};

@@ -1,4 +1,4 @@
-// What opening a list finds wrong, and where.
+//! What opening a list finds wrong, and where.
 use crate::asking::check_fault;
 
 // NOT 0 to 10, AND 0 and 1 to 11, a latch from 0 and 1 to 12 that keeps 13, AND 11 and 12 to 14, NOT 2 to 15.

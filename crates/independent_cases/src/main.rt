@@ -1,5 +1,5 @@
-// Runs the script on standard input, and prints of each answer the numbers before the words for people. The stored script
-// and what it must print were made by tools/independent.py, which shares no code with the library.
+//! Runs the script on standard input, and prints of each answer the numbers before the words for people. The stored script
+//! and what it must print were made by tools/independent.py, which shares no code with the library.
 #![tactic(auto)]
 
 use commands::{FileBytes, Mistake, Vocabulary};

@@ -1,4 +1,4 @@
--- Bytes that stand in a byte string. Assumes nothing.
+-- Bytes that stand in a byte string.
 use Rattle.std.proofs.Common.{◌≡◌, ℕ, zero, suc, ◌+◌, ◌<◌, ltb, List, [], ◌∷◌, ◌++◌, length, drop, Some, None, Option, ap, ◌∙◌, subst, add-one, arith}
 use Rattle.std.proofs.lemmas.Bool.{lt-ltb, cond-true}
 use Rattle.std.specs.List.{AllByRecursion as All, slice_get}

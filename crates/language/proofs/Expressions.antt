@@ -1,4 +1,4 @@
--- Reading back what was written, and what the values of numbers can be. Assumes nothing.
+-- Reading back what was written, and what the values of numbers can be.
 use Rattle.std.proofs.Common.{◌≡◌, ℕ, zero, suc, ◌+◌, ◌<◌, ◌≤◌, max, Bool, true, false, cond, ◌&&◌, T, eqb, ltb, leb, List, [], ◌++◌, length, ℤ, pos, negsuc, ◌<ℤ◌, Some, Decides, Option, sym, refl, ap, ◌∙◌, subst, zero-le, zero-add, arith, lit≤}
 use lib.IntN.{pos-ne-negsuc}
 use lib.Signed.{lt_z}

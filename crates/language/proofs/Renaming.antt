@@ -1,4 +1,4 @@
--- Exchanging two names in an expression. Assumes nothing.
+-- Exchanging two names in an expression.
 use Rattle.std.proofs.Common.{◌≡◌, ℕ, suc, ◌<◌, max, Bool, true, not, ◌&&◌, ◌||◌, ltb, leb, List, ◌∷◌, ◌++◌, length, ◌+ℤ◌, ◌-ℤ◌, sym, refl, ap, ◌∙◌, ap₂, arith}
 use lib.Signed.{lt_z}
 use Rattle.std.proofs.lemmas.List.{length-append, append_assoc}

@@ -1,4 +1,4 @@
--- The definitions by recursion, one step at a time. Assumes nothing.
+-- The definitions by recursion, one step at a time.
 use Rattle.model.specs.Tests.{count}
 use Rattle.std.proofs.Common.{◌≡◌, ℕ, zero, suc, ◌+◌, ◌<◌, ◌≤◌, Bool, true, false, cond, ◌⊎◌, List, [], ◌∷◌, length, get_or, Some, None, Option, refl, ap, ◌∙◌, subst, inl, inr, zero-le, not-suc-le-zero, add-one, arith}
 use Rattle.std.proofs.lemmas.Option.{slice_get-get_or, slice_get_past}

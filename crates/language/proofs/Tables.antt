@@ -1,4 +1,4 @@
--- Opening the written form of a right table gives that table. Assumes nothing.
+-- Opening the written form of a right table gives that table.
 use Rattle.std.proofs.Common.{◌≡◌, ℕ, suc, ◌+◌, ◌*◌, ◌/◌, ◌%◌, ◌^◌, ◌<◌, ◌≤◌, Bool, true, false, cond, eqb, ltb, leb, List, [], ◌∷◌, ◌++◌, length, take, drop, Some, None, Option, sym, refl, ap, ◌∙◌, subst, ap₂, zero-le, le_refl, zero-add, arith, lit≤}
 use Rattle.std.proofs.ByRecursion.{All-append}
 use Rattle.std.proofs.lemmas.List.{length-append, append-nil, take_at, drop_all}

@@ -1,4 +1,4 @@
--- The sample table and its faults. Assumes nothing.
+-- The sample table and its faults.
 use Rattle.std.proofs.Common.{refl}
 use Rattle.model.specs.Tests.{every, some, count}
 use Rattle.language.specs.Expressions.{read_number, read_truth}

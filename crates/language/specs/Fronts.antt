@@ -1,5 +1,4 @@
 -- Reading from the front: a reader looks at the bytes in their order and at none twice, and tells the first fault.
--- Assumes nothing.
 use Rattle.std.specs.Prelude.{◌≡◌, ℕ, ◌+◌, ◌<◌, ◌≤◌, List, length, None}
 use Rattle.std.specs.List.{slice_get}
 use Rattle.language.specs.Expressions.{Reading, good, bad}

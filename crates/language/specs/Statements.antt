@@ -1,4 +1,4 @@
--- The theorems of this crate. Assumes nothing.
+-- The theorems of this crate.
 use Rattle.std.specs.Prelude.{◌≡◌, ℕ, ◌+◌, ◌<◌, ◌≤◌, true, false, List, [], ◌∷◌, ◌++◌, length, take, drop, replicate, ℤ, pos, negsuc, ◌≤ℤ◌, ◌<ℤ◌, Some, None, Decides, Option, ◌≢◌, slice_set}
 use Rattle.model.specs.Meanings.{Valuation, Bytes}
 use Rattle.model.specs.declared.Fault.{Fault}

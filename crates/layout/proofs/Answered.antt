@@ -1,4 +1,4 @@
--- What an answer says of the step that it tells. Assumes nothing.
+-- What an answer says of the step that it tells.
 use Rattle.std.proofs.Common.{◌≡◌, ℕ, List, length, Ok, Err, Result, sym, refl, ap, ◌∙◌, subst}
 use Rattle.language.specs.Tables.{Step, fine, wrong, short, and_then}
 use Rattle.model.specs.Faults.{own}

@@ -1,4 +1,4 @@
--- An atom that is read, part by part. Assumes nothing.
+-- An atom that is read, part by part.
 use Rattle.std.proofs.Common.{◌≡◌, ℕ, List, Ok, Err, Result, ◌∙◌, subst}
 use Rattle.language.specs.Expressions.{Seen}
 use Rattle.language.specs.Tables.{TableVariable, size, seen_in, names_own, names_variables, between, byte_item, set_item, many, read_choice, read_atom}

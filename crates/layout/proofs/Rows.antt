@@ -1,4 +1,4 @@
--- Parts that are read one after the other. Assumes nothing.
+-- Parts that are read one after the other.
 use Rattle.std.proofs.Common.{◌≡◌, ℕ, zero, suc, ◌+◌, ◌-◌, ◌<◌, List, [], ◌∷◌, ◌++◌, length, Ok, Err, Result, subst, sym, refl, ap, ◌∙◌, append_assoc, append-nil, arith, length-append}
 use Rattle.std.specs.List.{slice_get}
 use Rattle.language.proofs.Steps.{many_none as no_more, many_more as one_more}

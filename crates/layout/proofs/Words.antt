@@ -1,4 +1,4 @@
--- Sets of names that stand for numbers of 32 bits. Assumes nothing.
+-- Sets of names that stand for numbers of 32 bits.
 use Rattle.std.proofs.Common.{◌≡◌, ℕ, ◌^◌, ◌<◌, ◌≤◌, ◌⊎◌, ◌&&◌, ltb, inl, inr, sym, ap, ◌∙◌}
 use Rattle.std.proofs.lemmas.Bool.{lt-ltb, le-ltb, cases_lt}
 use Rattle.language.specs.TableLaws.{bit_high}

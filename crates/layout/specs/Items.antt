@@ -1,4 +1,4 @@
--- Expressions that are checked. Assumes nothing.
+-- Expressions that are checked.
 use Rattle.std.specs.Prelude.{◌≡◌, ℕ, ◌+◌, ◌≤◌, List, length, Some, None, Err, Option, Result}
 use Rattle.expression.specs.Checking.{checked}
 use Rattle.language.specs.Tables.{Step, fine, wrong, and_then, between, byte_item}

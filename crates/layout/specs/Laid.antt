@@ -1,4 +1,4 @@
--- How a layout tells where the parts of a table lie. Assumes nothing.
+-- How a layout tells where the parts of a table lie.
 use Rattle.std.specs.Prelude.{◌≡◌, ℕ, List}
 use Rattle.model.specs.Rows.{listed}
 use Rattle.model.specs.Sets.{has}

@@ -1,4 +1,4 @@
--- What reading a byte string answers. Assumes nothing.
+-- What reading a byte string answers.
 use Rattle.std.specs.Prelude.{◌≡◌, ℕ, List, Some, Ok, Err, Result}
 use Rattle.language.specs.Tables.{TableSyntax, opened, table_opened, table_fault}
 use Rattle.model.specs.declared.Fault.{Fault}

@@ -1,4 +1,4 @@
--- What is read from where a reader stands, and where it stands then. Assumes nothing.
+-- What is read from where a reader stands, and where it stands then.
 use Rattle.std.specs.Prelude.{◌≡◌, ℕ, ◌+◌, ◌<◌, cond, List, length, Some, Ok, Err, Result, ◌==◌}
 use Rattle.model.specs.Faults.{own}
 use Rattle.model.specs.declared.Fault.{Fault}

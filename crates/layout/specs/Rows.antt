@@ -1,4 +1,4 @@
--- Rows of what was made of parts. Assumes nothing.
+-- Rows of what was made of parts.
 use Rattle.std.specs.Prelude.{◌≡◌, ℕ, List, length, Some, None, Option}
 use Rattle.std.specs.List.{slice_get}
 

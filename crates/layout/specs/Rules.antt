@@ -1,4 +1,4 @@
--- The numbers of the rules that a table may break. Assumes nothing.
+-- The numbers of the rules that a table may break.
 use Rattle.std.specs.Prelude.{ℕ}
 use Rattle.layout.specs.declared.rules.Rule.{Rule}
 use Rattle.layout.specs.declared.rules.Rule.TheVariants.{TooLong, Missing, Variable, Atom, Expression, LeftOver}

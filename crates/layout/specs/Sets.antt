@@ -1,4 +1,4 @@
--- Sets of names, and how they are judged. Assumes nothing.
+-- Sets of names, and how they are judged.
 use Rattle.std.specs.Prelude.{◌≡◌, ℕ, Bool, false, Some, None, Option}
 use Rattle.language.specs.Tables.{bit}
 use Rattle.model.specs.Sets.{has}

@@ -1,4 +1,4 @@
--- Variables that are read. Assumes nothing.
+-- Variables that are read.
 use Rattle.std.specs.Prelude.{◌≡◌, ℕ, List, None, Option, slice_index_or}
 use Rattle.std.specs.Option.{option_map}
 use Rattle.language.specs.Tables.{TableVariable, variable_at}

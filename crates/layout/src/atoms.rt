@@ -1,4 +1,4 @@
-// The atoms of a table.
+//! The atoms of a table.
 ghost use Rattle.expression.specs.Checking.{seen_of};
 ghost use Rattle.language.specs.Tables.{TableVariable, many, read_atom, seen_in};
 ghost use Rattle.layout.specs.Laid.{AtomLaid, AtomsLaid};
@@ -64,9 +64,9 @@ impl Reader<'_> {
         })
     }
 
-    // So many atoms. `choices`, `numbers` and `variables` go on in the same way, and fill a row of another type, nothing, or an
-    // array by name. By `try_for_each` nothing is known of the reader that its closure moves; a function for rows of any type has
-    // to tell of each call in turn, and is longer than what it saves the two that fill one.
+    /// So many atoms. `choices`, `numbers` and `variables` go on in the same way, and fill a row of another type, nothing, or an
+    /// array by name. By `try_for_each` nothing is known of the reader that its closure moves; a function for rows of any type has
+    /// to tell of each call in turn, and is longer than what it saves the two that fill one.
     pub fn atoms(&mut self, variables: &Variables, count: u8) -> Result<Row<AtomLayout, 16>, Fault>
         requires { count ≤ 16 }
         ensures { (vs : List TableVariable) → VariablesLaid vs variables.now → Reads (AtomsLaid self.old.bytes.now) (many (read_atom vs) count) self.old self.new result }

@@ -1,4 +1,4 @@
-// The choices of an atom in one kind of round.
+//! The choices of an atom in one kind of round.
 ghost use Rattle.expression.specs.Checking.{seen_of};
 ghost use Rattle.language.specs.Tables.{many, read_choice};
 ghost use Rattle.layout.specs.Laid.{ChoicesLaid};
@@ -20,7 +20,7 @@ impl Reader<'_> {
         self.numbers(seen, controlled)
     }
 
-    // Where so many choices begin.
+    /// Where so many choices begin.
     pub fn choices(&mut self, seen: &Seen, controlled: u8, count: u8) -> Result<Places, Fault>
         requires { count ≤ 8 }
         ensures { Reads (ChoicesLaid self.old.bytes.now (seen_of seen.now) controlled) (many (read_choice (seen_of seen.now) controlled) count) self.old self.new result }

@@ -1,4 +1,4 @@
-// Expressions behind their length bytes.
+//! Expressions behind their length bytes.
 ghost use Rattle.expression.specs.Checking.{seen_of};
 ghost use Rattle.language.specs.Expressions.{whole_number, whole_truth};
 ghost use Rattle.language.specs.Tables.{expression_item, many};
@@ -37,7 +37,7 @@ impl Reader<'_> {
         self.expression(|part| check_number(part, seen))
     }
 
-    // So many numbers.
+    /// So many numbers.
     pub fn numbers(&mut self, seen: &Seen, count: u8) -> Result<(), Fault>
         ensures { Passes (many (expression_item (whole_number 8 (seen_of seen.now))) count) self.old self.new result }
     {

@@ -1,4 +1,4 @@
-// Where the parts of a byte table lie: its variables and the sets of its atoms read out, and the place of each choice.
+//! Where the parts of a byte table lie: its variables and the sets of its atoms read out, and the place of each choice.
 #![tactic(auto)]
 
 mod atoms;

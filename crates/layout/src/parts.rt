@@ -1,8 +1,8 @@
-// What is found on reading a table.
+//! What is found on reading a table.
 use crate::variables::Variables;
 use model::{Names, Row};
 
-// Where the choices of an atom in one kind of round begin, each with its guard's length byte.
+/// Where the choices of an atom in one kind of round begin, each with its guard's length byte.
 pub type Places = Row<u16, 8>;
 
 #[derive(Clone, Copy)]

@@ -1,4 +1,4 @@
-// A byte table is read once, from the front: the first fault, or where everything lies.
+//! A byte table is read once, from the front: the first fault, or where everything lies.
 ghost use Rattle.language.specs.Tables.{read_table};
 ghost use Rattle.layout.specs.Laid.{Laid};
 ghost use Rattle.layout.specs.Read.{Read};
@@ -22,7 +22,7 @@ impl Reader<'_> {
     }
 }
 
-// The layout of the table that the bytes are, or their first fault.
+/// The layout of the table that the bytes are, or their first fault.
 pub fn read(bytes: &[u8]) -> Result<Layout, Fault>
     ensures { Read bytes.now result }
 {

@@ -1,4 +1,4 @@
-// The rules that a table may break, by the numbers of their faults.
+//! The rules that a table may break, by the numbers of their faults.
 ghost use Rattle.layout.specs.Rules.{number_of};
 ghost use Rattle.model.specs.Faults.{own};
 ghost use Rattle.std.specs.Prelude.{◌≡◌, ◌≤◌};
@@ -16,7 +16,7 @@ pub enum Rule {
 }
 
 impl Rule {
-    // The fault of breaking the rule at this place of a table.
+    /// The fault of breaking the rule at this place of a table.
     pub fn broken_at(self, place: usize) -> Fault
         requires { place ≤ 4096 }
         ensures { result ≡ own (number_of self) place }

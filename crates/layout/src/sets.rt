@@ -1,4 +1,4 @@
-// Sets of names, each written as four bytes.
+//! Sets of names, each written as four bytes.
 ghost use Rattle.language.specs.Tables.{TableVariable, names_own, names_variables, set_item};
 ghost use Rattle.layout.specs.Reads.{Reads};
 ghost use Rattle.layout.specs.Sets.{Judges, NamesOf, passes_in};
@@ -21,7 +21,7 @@ fn names_of(word: u32) -> Names
     Names::gather(|name| (word >> name) % 2 == 1)
 }
 
-// How many names are in the set.
+/// How many names are in the set.
 pub fn count(names: &Names) -> u8
     ensures { result ≡ count (has names.now) 32 }
 {
@@ -38,16 +38,16 @@ fn all_pass<F: Fn(Variable) -> bool>(variables: &Variables, names: &Names, test:
     })
 }
 
-// Does each name of the set stand for a variable? `VariablesLaid` and `NamesOf`, here and in the contracts of `are_own`, of
-// `seen_in` and of the readers of atoms, tie what is at hand to the list and the word that a definition reads: no field holds
-// those, and so no type can.
+/// Does each name of the set stand for a variable? `VariablesLaid` and `NamesOf`, here and in the contracts of `are_own`, of
+/// `seen_in` and of the readers of atoms, tie what is at hand to the list and the word that a definition reads: no field holds
+/// those, and so no type can.
 pub fn are_known(variables: &Variables, names: &Names) -> bool
     ensures { (vs : List TableVariable) (w : ℕ) → VariablesLaid vs variables.now → NamesOf w names.now → result ≡ names_variables vs w }
 {
     all_pass(variables, names, |_| true)
 }
 
-// Is there a name in the set, and does each stand for a variable that is not external?
+/// Is there a name in the set, and does each stand for a variable that is not external?
 pub fn are_own(variables: &Variables, names: &Names) -> bool
     ensures { (vs : List TableVariable) (w : ℕ) → VariablesLaid vs variables.now → NamesOf w names.now → result ≡ names_own vs w }
 {
@@ -58,7 +58,7 @@ pub fn are_own(variables: &Variables, names: &Names) -> bool
 }
 
 impl Reader<'_> {
-    // A set of names that passes the test.
+    /// A set of names that passes the test.
     pub fn set<F: Fn(&Names) -> bool>(&mut self, test: F) -> Result<Names, Fault>
         requires { F.IsAlwaysCallable test }
         ensures { (p : ℕ → Bool) → Judges (FnReturnsAt F.Fn test) p → Reads NamesOf (set_item p) self.old self.new result }

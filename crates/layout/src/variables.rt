@@ -1,4 +1,4 @@
-// The variables of a table.
+//! The variables of a table.
 ghost use Rattle.std.specs.Prelude.{◌≡◌, length};
 
 use model::Kind;
@@ -11,7 +11,7 @@ pub struct Variable {
     pub top: u8,
 }
 
-// The variable that each name stands for, if any: an array by name, since it takes no heap and is asked for a name without a search.
+/// The variable that each name stands for, if any: an array by name, since it takes no heap and is asked for a name without a search.
 #[derive(Clone, Copy)]
 pub struct Variables {
     rows: [Option<Variable>; 32],

@@ -1,5 +1,5 @@
 -- On a fit drawing each round can be gone through: some atom is always ready, has an open choice, and so every round
--- has an outcome. Assumes nothing.
+-- has an outcome.
 use Rattle.std.proofs.Common.{◌≡◌, ℕ, zero, suc, ◌<◌, ◌≤◌, Bool, true, false, cond, not, ◌&&◌, ◌⊎◌, List, [], ◌∷◌, length, set, replicate, None, Option, sym, refl, subst, inl, inr, ⊎_elim, le_refl, arith}
 use Rattle.std.proofs.lemmas.List.{length-replicate}
 use Rattle.std.proofs.lemmas.Bool.{and_from, and_parts, or_left, or_right, both_ways, cases_Bool, le-ltb, not-true}

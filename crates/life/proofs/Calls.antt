@@ -1,4 +1,4 @@
--- What every call leaves right. Assumes nothing.
+-- What every call leaves right.
 use Rattle.std.proofs.Common.{◌≡◌, ℕ, zero, suc, ◌*◌, ◌/◌, ◌%◌, ◌≤◌, Bool, true, false, cond, not, ◌||◌, eqb, ltb, List, [], ◌∷◌, ◌++◌, map, length, take, drop, replicate, Some, None, Option, sym, refl, ◌∙◌, subst, arith}
 use Rattle.std.proofs.ByRecursion.{All-append, All-push, All-map}
 use Rattle.std.proofs.lemmas.List.{length-map}

@@ -1,4 +1,4 @@
--- What a claim says of a module, and of the modules that are made of it. Assumes nothing.
+-- What a claim says of a module, and of the modules that are made of it.
 use Rattle.std.proofs.Common.{◌≡◌, ℕ, zero, suc, ◌<◌, Bool, true, false, ◌&&◌, leb, List, [], ◌∷◌, is_some, Some, None, sym, refl, ap, ◌∙◌, subst, le_refl, arith}
 use Rattle.std.proofs.lemmas.Bool.{and_from, and_parts, both_ways, le-leb}
 use Rattle.std.specs.List.{AllByRecursion as All, slice_get}

@@ -1,4 +1,4 @@
--- Evidence can be had on every fit unit. Assumes nothing.
+-- Evidence can be had on every fit unit.
 use Rattle.std.proofs.Common.{◌≡◌, ℕ, ◌≤◌, List, [], ◌∷◌, length, Some, None, Option, sym, refl, ap, ◌∙◌, subst, inl, inr, arith}
 use Rattle.std.specs.List.{AllByRecursion as All, slice_get}
 use Rattle.model.specs.Meanings.{Meaning}

@@ -1,4 +1,4 @@
--- What a fit drawing keeps, at any values in range. Assumes nothing.
+-- What a fit drawing keeps, at any values in range.
 use Rattle.std.proofs.Common.{◌≡◌, ℕ, ◌<◌, ◌≤◌, Bool, true, false, cond, not, ◌&&◌, eqb, List, map, length, ℤ, pos, negsuc, is_some, Some, None, Option, sym, refl, ap, ◌∙◌, subst, ⊎_elim, arith}
 use Rattle.std.proofs.lemmas.List.{length-map, get_or-map}
 use Rattle.std.proofs.lemmas.Bool.{and_cases, or_parts, both_ways, cases_lt, cond-true, eqb-true, leb-true, not-false}

@@ -1,4 +1,4 @@
--- Every unit that can come from the site is good, at every point of its life. Assumes nothing.
+-- Every unit that can come from the site is good, at every point of its life.
 use Rattle.std.proofs.Common.{◌≡◌, ℕ, List, Some, None, subst, arith}
 use Rattle.std.specs.List.{AllByRecursion as All}
 use Rattle.model.specs.Meanings.{Meaning}

@@ -1,4 +1,4 @@
--- What holds in the middle of a round, whichever atoms have fired. Assumes nothing.
+-- What holds in the middle of a round, whichever atoms have fired.
 use Rattle.std.proofs.Common.{◌≡◌, ℕ, ◌<◌, ◌≤◌, Bool, true, false, cond, not, ◌&&◌, List, length, set, replicate, pos, None, Option, sym, refl, ap, ◌∙◌, subst, ⊎_elim, arith}
 use Rattle.std.proofs.lemmas.List.{length-set, length-replicate, get_or-set_same, get_or-set_other}
 use Rattle.std.proofs.lemmas.Bool.{and_cases, both_ways, cases_Bool, cases_eq, cases_lt, cond-true, cond-false, cond_both, ltb-false, not-true, not-false, not_from_true, not_from_false}

@@ -1,4 +1,4 @@
--- States written one after the other, 32 bytes each. Assumes nothing.
+-- States written one after the other, 32 bytes each.
 use Rattle.std.proofs.Common.{◌≡◌, ℕ, zero, suc, ◌+◌, ◌*◌, ◌/◌, ◌%◌, ◌<◌, ◌≤◌, false, List, [], ◌∷◌, ◌++◌, length, get_or, take, drop, sym, refl, ap, ◌∙◌, subst, not-suc-le-zero, arith}
 use Rattle.std.proofs.lemmas.List.{length-append, length-map, get_or-map, take_at, drop_at, drop-drop, same_lists}
 use Rattle.std.proofs.lemmas.Bool.{or_from, eq-eqb, ne_eqb, le-ltb, not_from_true}

@@ -1,4 +1,4 @@
--- What rounds lead to. Assumes nothing.
+-- What rounds lead to.
 use Rattle.std.specs.Prelude.{◌≡◌, ℕ, ◌+◌, ◌<◌, false, List, [], ◌∷◌, length, Some, None, Option}
 use Rattle.model.specs.Meanings.{Meaning}
 use Rattle.model.specs.States.{InitialState, Successor}

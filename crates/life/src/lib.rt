@@ -1,5 +1,5 @@
-// The whole life of a unit: what stands of every unit, whatever calls it has seen. Each function here does nothing, and
-// exists so that its contract names a theorem: the gate then asks for the proof.
+//! The whole life of a unit: what stands of every unit, whatever calls it has seen. Each function here does nothing, and
+//! exists so that its contract names a theorem: the gate then asks for the proof.
 #![tactic(auto)]
 
 ghost use Rattle.units.specs.Promises.{EveryUnitFromTheSiteIsSound};

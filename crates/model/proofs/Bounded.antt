@@ -1,4 +1,4 @@
--- Tests on all numbers below a bound. Assumes nothing.
+-- Tests on all numbers below a bound.
 use Rattle.std.proofs.Common.{◌≡◌, ℕ, zero, suc, ◌+◌, ◌<◌, Bool, true, false, cond, ◌⊎◌, Some, None, Option, is_some, ◌||◌, Decides, MatchBool, get_or, length, refl, sym, ap, ◌∙◌, subst, inl, inr, not-suc-le-zero, add-one, arith}
 use Rattle.std.proofs.lemmas.Bool.{or_from, cases_eq, both_ways, cond-true, cond-false}
 use Rattle.std.proofs.lemmas.Bool.Decides.{Decides-below_and, Decides-below_or}

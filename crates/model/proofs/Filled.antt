@@ -1,4 +1,4 @@
--- What an array is filled with by a closure that keeps what it captures. Assumes nothing.
+-- What an array is filled with by a closure that keeps what it captures.
 use Rattle.std.proofs.Common.{◌≡◌, ℕ, zero, suc, ◌+◌, ◌<◌, ◌≤◌, List, get_or, sym, subst, ⊎_elim, arith}
 use Rattle.std.proofs.lemmas.Bool.{cases_eq}
 use Rattle.std.specs.Fn.{Called, Mut}

@@ -1,4 +1,4 @@
--- What a search through a range leaves of the numbers that pass. Assumes nothing.
+-- What a search through a range leaves of the numbers that pass.
 use Rattle.std.proofs.Common.{◌≡◌, ℕ, suc, ◌-◌, Bool, true, false, cond, List, [], ◌∷◌, Option, Some, None, filter, sym, ap, subst, ◌∙◌, arith}
 use Rattle.std.proofs.iter.Yields.{nat_range_steps}
 use Rattle.std.specs.Fn.{CalledAt, Mut}

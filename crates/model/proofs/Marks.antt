@@ -1,4 +1,4 @@
--- Rows of marks. Assumes nothing.
+-- Rows of marks.
 use Rattle.std.proofs.Common.{◌≡◌, ℕ, zero, suc, false, get_or, replicate, refl}
 
 -- a row without a mark

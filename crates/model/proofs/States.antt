@@ -1,4 +1,4 @@
--- What the tests on states tell, and what passes them. Assumes nothing.
+-- What the tests on states tell, and what passes them.
 use Rattle.std.proofs.Common.{◌≡◌, ℕ, ◌<◌, ◌≤◌, Bool, true, false, eqb, leb, List, length, ℤ, pos, negsuc, sym, refl, ap, subst, ⊎_elim, arith}
 use Rattle.std.proofs.lemmas.List.{get_or_past}
 use Rattle.std.proofs.lemmas.Bool.{and_from, and_parts, eq-eqb, eqb-true, leb-true, le-leb, both_ways, cases_lt}

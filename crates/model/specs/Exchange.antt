@@ -1,4 +1,4 @@
--- The exchange of two names. Assumes nothing.
+-- The exchange of two names.
 use Rattle.std.specs.Prelude.{ℕ, cond, ◌==◌}
 
 -- each of the two names for the other, and any other name for itself

@@ -1,4 +1,4 @@
--- Faults by their number and place. Assumes nothing.
+-- Faults by their number and place.
 use Rattle.std.specs.Prelude.{ℕ, List, ◌++◌, codes, decimal}
 use Rattle.model.specs.declared.Fault.{Fault}
 

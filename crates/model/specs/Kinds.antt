@@ -1,4 +1,4 @@
--- The numbers that stand for kinds of variables. Assumes nothing.
+-- The numbers that stand for kinds of variables.
 use Rattle.std.specs.Prelude.{◌≡◌, ℕ, ◌<◌, Result, MatchResult}
 use Rattle.model.specs.declared.Kind.{Kind}
 use Rattle.model.specs.declared.Kind.TheVariants.{Private, Interface, External}

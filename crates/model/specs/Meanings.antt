@@ -1,4 +1,4 @@
--- What a drawing tells, and the laws that every kind of drawing keeps. Assumes nothing.
+-- What a drawing tells, and the laws that every kind of drawing keeps.
 use Rattle.std.specs.Prelude.{◌≡◌, ℕ, ◌<◌, ◌≤◌, Bool, true, false, ℤ, pos, negsuc, ◌≤ℤ◌, is_some, Some, None, Option, ◌≢◌}
 use Rattle.model.specs.declared.Fault.{Fault}
 use Rattle.model.specs.declared.Kind.{Kind}

@@ -1,4 +1,4 @@
--- The words for rounds. Assumes nothing.
+-- The words for rounds.
 use Rattle.std.specs.Prelude.{ℕ, cond, List, Some, None, codes, Option}
 use Rattle.std.specs.Str.{bytes_eq}
 use Rattle.model.specs.declared.Round.{Round}

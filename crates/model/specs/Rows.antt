@@ -1,4 +1,4 @@
--- Rows of items. Assumes nothing.
+-- Rows of items.
 use Rattle.std.specs.Prelude.{◌≡◌, ℕ, ◌<◌, List, [], ◌∷◌, ◌++◌, length, take, Result, Ok, Err}
 use Rattle.model.specs.declared.row.Row.{Row}
 use Rattle.model.specs.declared.row.Full.{Full}

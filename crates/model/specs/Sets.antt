@@ -1,4 +1,4 @@
--- Sets of names. Assumes nothing.
+-- Sets of names.
 use Rattle.std.specs.Prelude.{ℕ, Bool, List, false, ◌&&◌, ◌-◌, ◌==◌, nat_lt, slice_index_or}
 use Rattle.std.specs.List.{filter, range_with_len}
 use Rattle.model.specs.declared.names.Names.{Names}

@@ -1,4 +1,4 @@
--- States of a module, its initial states and successors, trajectories. Assumes nothing.
+-- States of a module, its initial states and successors, trajectories.
 use Rattle.std.specs.Prelude.{◌≡◌, ℕ, Bool, true, false, ◌&&◌, List, [], ◌∷◌, length, replicate, ℤ, pos, negsuc, ◌==◌, nat_le, slice_index}
 use Rattle.model.specs.Meanings.{Valuation, OutlineFacts, Meaning}
 use Rattle.model.specs.Tests.{every, some, implies}

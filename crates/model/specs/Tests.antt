@@ -1,4 +1,4 @@
--- Tests on all numbers below a bound. Assumes nothing.
+-- Tests on all numbers below a bound.
 use Rattle.std.specs.Prelude.{◌≡◌, ◌<◌, ℕ, zero, suc, ◌+◌, Bool, true, false, cond, not, ◌&&◌, ◌||◌, Some, None, Option}
 use Rattle.std.specs.Option.{option_or}
 

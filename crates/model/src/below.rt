@@ -1,9 +1,9 @@
-// Questions after all numbers below a bound. Each asks that its test can be called at the numbers below the bound: only the caller
-// knows that of its closure, so no type can keep it.
+//! Questions after all numbers below a bound. Each asks that its test can be called at the numbers below the bound: only the caller
+//! knows that of its closure, so no type can keep it.
 ghost use Rattle.model.specs.Tests.{every, some, lowest, count, Answers};
 ghost use Rattle.std.specs.Prelude.{◌≡◌, ◌<◌, ℕ, Bool};
 
-// The lowest number below the bound at which the test passes.
+/// The lowest number below the bound at which the test passes.
 pub fn lowest_below<F: Fn(u8) -> bool>(bound: u8, test: F) -> Option<u8>
     requires { (k : ℕ) → k < bound → F.pre test k }
     ensures { (p : ℕ → Bool) → Answers (F.post test) p bound → result ≡ lowest p bound }
@@ -15,7 +15,7 @@ pub fn lowest_below<F: Fn(u8) -> bool>(bound: u8, test: F) -> Option<u8>
     )
 }
 
-// Does the test pass at some number below the bound?
+/// Does the test pass at some number below the bound?
 pub fn any_below<F: Fn(u8) -> bool>(bound: u8, test: F) -> bool
     requires { (k : ℕ) → k < bound → F.pre test k }
     ensures { (p : ℕ → Bool) → Answers (F.post test) p bound → result ≡ some p bound }
@@ -23,7 +23,7 @@ pub fn any_below<F: Fn(u8) -> bool>(bound: u8, test: F) -> bool
     lowest_below(bound, test).is_some()
 }
 
-// Does the test pass at every number below the bound?
+/// Does the test pass at every number below the bound?
 pub fn all_below<F: Fn(u8) -> bool>(bound: u8, test: F) -> bool
     requires { (k : ℕ) → k < bound → F.pre test k }
     ensures { (p : ℕ → Bool) → Answers (F.post test) p bound → result ≡ every p bound }
@@ -31,9 +31,9 @@ pub fn all_below<F: Fn(u8) -> bool>(bound: u8, test: F) -> bool
     (0..bound).all(test)
 }
 
-// At how many numbers below the bound does the test pass? A loop: with `filter` and `count` all was proved but the answer, since
-// what the library tells of a filter is of a closure that answers as one function at every number. What this test answers is
-// known below the bound alone.
+/// At how many numbers below the bound does the test pass? A loop: with `filter` and `count` all was proved but the answer, since
+/// what the library tells of a filter is of a closure that answers as one function at every number. What this test answers is
+/// known below the bound alone.
 pub fn count_below<F: Fn(u8) -> bool>(bound: u8, test: F) -> u8
     requires { (k : ℕ) → k < bound → F.pre test k }
     ensures { (p : ℕ → Bool) → Answers (F.post test) p bound → result ≡ count p bound }

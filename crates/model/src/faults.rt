@@ -1,4 +1,4 @@
-// Faults as errors.
+//! Faults as errors.
 ghost use Rattle.std.specs.Prelude.{Some};
 ghost use Rattle.model.specs.Faults.{fault_numbers};
 

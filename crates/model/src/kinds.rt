@@ -1,4 +1,4 @@
-// Kinds of variables as numbers and as words, and rounds as words and from them.
+//! Kinds of variables as numbers and as words, and rounds as words and from them.
 ghost use Rattle.std.specs.Prelude.{◌≡◌};
 ghost use Rattle.std.specs.Result.{result_ok};
 ghost use Rattle.model.specs.Kinds.{kind_number, Decodes};
@@ -9,11 +9,11 @@ use std::error::Error;
 use std::fmt;
 use std::str::FromStr;
 
-// A number that stands for no kind.
+/// A number that stands for no kind.
 #[derive(Clone, Copy, PartialEq, Eq, Debug)]
 pub struct UnknownKind(pub u8);
 
-// A word that names no round.
+/// A word that names no round.
 #[derive(Clone, Copy, PartialEq, Eq, Debug)]
 pub struct UnknownRound;
 

@@ -1,4 +1,4 @@
-// The types that every drawing and every unit speak of.
+//! The types that every drawing and every unit speak of.
 #![tactic(auto)]
 
 ghost use Rattle.model.specs.Faults.{own};
@@ -18,8 +18,8 @@ pub use kinds::{UnknownKind, UnknownRound};
 pub use names::{Members, Names};
 pub use row::{Full, Row};
 
-// How a module's variable is controlled and seen: by the module alone, by the module for all to see,
-// or by its surroundings.
+/// How a module's variable is controlled and seen: by the module alone, by the module for all to see,
+/// or by its surroundings.
 #[derive(Clone, Copy, PartialEq, Eq, Debug)]
 pub enum Kind {
     Private = 0,
@@ -27,15 +27,15 @@ pub enum Kind {
     External = 2,
 }
 
-// The round that gives a module its first state, or one that takes it from a state to the next.
+/// The round that gives a module its first state, or one that takes it from a state to the next.
 #[derive(Clone, Copy, PartialEq, Eq, Debug)]
 pub enum Round {
     Initial,
     Update,
 }
 
-// What is wrong with a drawing: which rule, in which layer of a pile, and at which byte, name or atom. The rule is a number: an
-// enum of all rules would name, in this lowest crate, those of every kind of drawing above it. Each kind has its own.
+/// What is wrong with a drawing: which rule, in which layer of a pile, and at which byte, name or atom. The rule is a number: an
+/// enum of all rules would name, in this lowest crate, those of every kind of drawing above it. Each kind has its own.
 #[derive(Clone, Copy, PartialEq, Eq, Debug)]
 pub struct Fault {
     pub number: u8,
@@ -44,7 +44,7 @@ pub struct Fault {
 }
 
 impl Fault {
-    // What is wrong with the top layer itself, or with a drawing that has but one.
+    /// What is wrong with the top layer itself, or with a drawing that has but one.
     pub fn own(number: u8, place: u16) -> Fault
         ensures { result ≡ own number place }
     {
@@ -56,10 +56,10 @@ impl Fault {
     }
 }
 
-// A value for each of the 32 names, name 0 first.
+/// A value for each of the 32 names, name 0 first.
 pub type State = [u8; 32];
 
-// A question after one choice of an atom at old and new values, which a script may still have to load.
+/// A question after one choice of an atom at old and new values, which a script may still have to load.
 #[derive(Clone, Copy, Drop)]
 pub struct Question<V> {
     pub round: Round,
@@ -69,7 +69,7 @@ pub struct Question<V> {
     pub new: V,
 }
 
-// The value that a state gives to a name, 0 to a number above 31.
+/// The value that a state gives to a name, 0 to a number above 31.
 pub fn value_of(state: State, name: u8) -> u8
     ensures { result ≡ value state name }
 {

@@ -1,4 +1,4 @@
-// A list of limited length, kept in place: no heap is needed for it. The library's own such list cannot be copied.
+//! A list of limited length, kept in place: no heap is needed for it. The library's own such list cannot be copied.
 ghost use Rattle.std.specs.Prelude.{◌≡◌, ◌≤◌, ⊤, length};
 
 use std::alloc::AllocError;
@@ -7,7 +7,7 @@ use std::fmt;
 
 mod methods;
 
-// There is no room for another item.
+/// There is no room for another item.
 #[derive(Clone, Copy, PartialEq, Eq, Debug)]
 pub struct Full;
 
@@ -19,7 +19,7 @@ impl fmt::Display for Full {
 
 impl Error for Full {}
 
-// At most N items, which stand first in an array; what stands behind them means nothing.
+/// At most N items, which stand first in an array; what stands behind them means nothing.
 #[derive(Debug)]
 pub struct Row<T, const N: usize> {
     items: [T; N],

@@ -1,7 +1,7 @@
-// What a choice gives to a name.
+//! What a choice gives to a name.
 use std::fmt;
 
-// A name, and what is given to it: a value, or the written number that tells it.
+/// A name, and what is given to it: a value, or the written number that tells it.
 #[derive(Clone, Copy)]
 pub struct Assignment<V> {
     pub name: u8,

@@ -1,10 +1,9 @@
-// What the choices of an atom do, as the table says that has the atom.
+//! What the choices of an atom do, as the table says that has the atom.
 use crate::assignment::Assignment;
 use crate::infix::{Written, WrittenNumber, WrittenTruth};
 use crate::listed::Listed;
 use any_drawing::{AnyDrawing, Node};
-use drawing::{Drawing, Outline};
-use model::{Round, State, value_of};
+use model::{Drawing, Outline, Round, State, value_of};
 use piles::Exchange;
 use std::alloc::{AllocError, Global};
 use std::array;
@@ -107,8 +106,8 @@ fn add_lines_below(
     }
 }
 
-// A line for each choice of the atom, where a table has it: what guards it and what it gives. A gate says by its kind
-// what it does.
+/// A line for each choice of the atom, where a table has it: what guards it and what it gives. A gate says by its kind
+/// what it does.
 pub fn choice_lines(heap: Global, drawing: &AnyDrawing, atom: u8) -> Result<String, AllocError> {
     let mut text = String::new(heap);
     // At the top each name is called by itself.

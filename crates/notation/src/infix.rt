@@ -1,10 +1,10 @@
-// Written expressions in infix notation. Only right expressions are shown; of any other what can be read is told.
+//! Written expressions in infix notation. Only right expressions are shown; of any other what can be read is told.
 use expression::{LEVELS, NumberOperator, TruthOperator};
 use model::{State, value_of};
 use std::fmt;
 
-// What is left to read of a written expression, and what each name is called. How many levels are left goes as a parameter, since one
-// reader is read on at all levels. Numbers and truths are told by functions of their own, as an evaluator has them (`expression`).
+/// What is left to read of a written expression, and what each name is called. How many levels are left goes as a parameter, since one
+/// reader is read on at all levels. Numbers and truths are told by functions of their own, as an evaluator has them (`expression`).
 #[derive(Clone, Copy)]
 pub struct Written<'a> {
     pub bytes: &'a [u8],
@@ -155,11 +155,11 @@ impl Written<'_> {
     }
 }
 
-// What is written, read as a number.
+/// What is written, read as a number.
 #[derive(Clone, Copy)]
 pub struct WrittenNumber<'a>(pub Written<'a>);
 
-// What is written, read as a truth.
+/// What is written, read as a truth.
 #[derive(Clone, Copy)]
 pub struct WrittenTruth<'a>(pub Written<'a>);
 

@@ -1,4 +1,4 @@
-// The choices of byte tables in infix notation, for people.
+//! The choices of byte tables in infix notation, for people.
 #![tactic(auto)]
 
 mod assignment;

@@ -1,10 +1,10 @@
-// Lists of items.
+//! Lists of items.
 ghost use Rattle.std.specs.Prelude.{◌≡◌, codes};
 
 use std::fmt;
 
-// The items with a mark between each two, or the word for none. A slice, since `fmt` cannot require of an iterator of
-// any type that it may be called and ends (tried: `next` was not proved).
+/// The items with a mark between each two, or the word for none. A slice, since `fmt` cannot require of an iterator of
+/// any type that it may be called and ends (tried: `next` was not proved).
 #[derive(Drop)]
 pub struct Listed<'a, T> {
     pub items: &'a [T],
@@ -13,7 +13,7 @@ pub struct Listed<'a, T> {
 }
 
 impl<'a, T> Listed<'a, T> {
-    // Packed, with a hyphen for none.
+    /// Packed, with a hyphen for none.
     pub fn for_programs(items: &'a [T]) -> Listed<'a, T>
         ensures items { result.items.now ≡ items.now }
         ensures mark { result.mark.now ≡ codes "," }
@@ -26,7 +26,7 @@ impl<'a, T> Listed<'a, T> {
         }
     }
 
-    // Spaced, with a word for none.
+    /// Spaced, with a word for none.
     pub fn for_people(items: &'a [T]) -> Listed<'a, T>
         ensures items { result.items.now ≡ items.now }
         ensures mark { result.mark.now ≡ codes ", " }

@@ -1,4 +1,4 @@
--- Where no atom awaits itself, placing them one after the other never gets stuck. Assumes nothing.
+-- Where no atom awaits itself, placing them one after the other never gets stuck.
 use Rattle.std.proofs.Common.{◌≡◌, ℕ, ◌<◌, min, Bool, true, false, not, ◌⊎◌, List, [], ◌∷◌, sym, refl, ap, ◌∙◌, subst, inl, inr, ⊎_elim, arith}
 use Rattle.std.proofs.lemmas.Bool.{and_parts, and_from, both_ways, cases_Bool, not-true, not_from_false}
 use Rattle.model.specs.Meanings.{Meaning, OutlineFacts}

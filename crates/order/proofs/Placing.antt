@@ -1,4 +1,4 @@
--- Placing atoms one after the other. Assumes nothing.
+-- Placing atoms one after the other.
 use Rattle.std.proofs.Common.{◌≡◌, ℕ, ◌+◌, ◌<◌, ◌≤◌, Bool, true, false, not, ◌||◌, eqb, ltb, ◌≢◌, List, ◌∷◌, map, length, set, sym, refl, ◌∙◌, subst, inl, inr, ⊎_elim, not-suc-le-zero, arith, get_or-set_other, get_or-set_same}
 use native.Mathlib.Decide.{ℕ_discrete}
 use lib.ListN.{length-map}

@@ -1,4 +1,4 @@
--- What stands behind the atoms that are placed. Assumes nothing.
+-- What stands behind the atoms that are placed.
 use Rattle.std.proofs.Common.{ℕ, ◌+◌, ◌≤◌, List, replicate, set, ◌∙◌, ⊎_elim, arith, get_or-set_other}
 use Rattle.std.proofs.lemmas.Bool.{cases_lt}
 use Rattle.std.proofs.lemmas.List.{get_or-replicate, get_or_past}

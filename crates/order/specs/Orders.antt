@@ -1,4 +1,4 @@
--- Orders of atoms in which each comes after those that it awaits. Assumes nothing.
+-- Orders of atoms in which each comes after those that it awaits.
 use Rattle.std.specs.Prelude.{◌≡◌, ℕ, ◌<◌, ◌≤◌, Bool, true, false, not, ◌&&◌, List, None, slice_index}
 use Rattle.model.specs.Meanings.{OutlineFacts}
 use Rattle.model.specs.Tests.{some, lowest}

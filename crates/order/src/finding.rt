@@ -1,13 +1,12 @@
-// The order is made place by place: the next atom is the lowest that is not placed yet, though all that it awaits are.
+//! The order is made place by place: the next atom is the lowest that is not placed yet, though all that it awaits are.
 ghost use Rattle.std.specs.Prelude.{◌≡◌, length};
 ghost use Rattle.fitness.specs.Steps.{direct};
 ghost use Rattle.model.specs.Sets.{has};
 ghost use Rattle.model.specs.Tests.{lowest};
 ghost use Rattle.order.specs.Orders.{InOrder, AtomsInOrder, NoneCircular, ZerosFrom, ready, NeverStuck};
 
-use drawing::Drawing;
 use fitness::AwaitTable;
-use model::{Names, any_below, lowest_below};
+use model::{Drawing, Names, any_below, lowest_below};
 
 // Is the atom not placed yet, and does it await none that is not?
 fn is_ready(table: &AwaitTable, placed: &Names, atom: u8) -> bool
@@ -46,8 +45,8 @@ fn order_by(table: &AwaitTable) -> [u8; 16]
     order
 }
 
-// The drawing's atoms in an order in which each comes after those that it awaits, where none awaits itself, directly or
-// through others; behind them stand zeros.
+/// The drawing's atoms in an order in which each comes after those that it awaits, where none awaits itself, directly or
+/// through others; behind them stand zeros.
 pub fn order_of<D: Drawing>(drawing: &D) -> [u8; 16]
     ensures long { length result ≡ 16 }
     ensures ordered { NoneCircular (D.Drawing.meaning drawing.now).outline → AtomsInOrder (D.Drawing.meaning drawing.now).outline result }

@@ -1,4 +1,4 @@
-// An order of a drawing's atoms in which each comes after those that it awaits.
+//! An order of a drawing's atoms in which each comes after those that it awaits.
 #![tactic(auto)]
 
 mod finding;

@@ -1,4 +1,4 @@
--- The numbers under which a fault tells the rules of piles. Assumes nothing.
+-- The numbers under which a fault tells the rules of piles.
 use Rattle.std.specs.Prelude.{ℕ}
 use Rattle.piles.specs.declared.rules.Rule.{Rule}
 use Rattle.piles.specs.declared.rules.Rule.TheVariants.{NewNameIsFree, HiddenIsInterface, KindsAgree, TopsAgree, FewAtoms}

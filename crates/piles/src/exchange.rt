@@ -1,4 +1,4 @@
-// The exchange of two names, in a name, a set of names and a state.
+//! The exchange of two names, in a name, a set of names and a state.
 ghost use Rattle.std.specs.Prelude.{◌≡◌, ℕ, ◌<◌, ◌&&◌, IfSome, is_some, nat_lt};
 ghost use Rattle.composition.specs.Acts.{seen_below};
 ghost use Rattle.model.specs.Exchange.{exchange};
@@ -7,7 +7,7 @@ ghost use Rattle.model.specs.States.{value};
 
 use model::{Names, State, exchanged};
 
-// Two names that change places.
+/// Two names that change places.
 #[derive(Clone, Copy, PartialEq, Eq, Debug)]
 pub struct Exchange {
     one: u8,
@@ -17,7 +17,7 @@ pub struct Exchange {
 }
 
 impl Exchange {
-    // The exchange of the two, where both are names.
+    /// The exchange of the two, where both are names.
     pub fn of(one: u8, other: u8) -> Option<Exchange>
         ensures names { IfSome result (λ e. (e.one ≡ one) × (e.other ≡ other)) }
         ensures there { is_some result ≡ (nat_lt one 32 && nat_lt other 32) }
@@ -29,21 +29,21 @@ impl Exchange {
         }
     }
 
-    // What the name is called once the two have changed places.
+    /// What the name is called once the two have changed places.
     pub fn name(&self, name: u8) -> u8
         ensures { result ≡ exchange self.now.one self.now.other name }
     {
         exchanged(self.one, self.other, name)
     }
 
-    // The set in which each of the two stands for the other.
+    /// The set in which each of the two stands for the other.
     pub fn names(&self, names: Names) -> Names
         ensures { (n : ℕ) → has result n ≡ has names (exchange self.now.one self.now.other n) }
     {
         Names::gather(|name| names.has(self.name(name)))
     }
 
-    // The state in which each of the two has the value of the other.
+    /// The state in which each of the two has the value of the other.
     pub fn state(&self, state: State) -> State
         ensures { value result ≡ seen_below self.now.one self.now.other (value state) }
     {

@@ -1,17 +1,16 @@
-// What is wrong with a rename, a hide or a join, judged from the outlines alone. A fault below comes before a layer's
-// own, and one of the left part before one of the right.
+//! What is wrong with a rename, a hide or a join, judged from the outlines alone. A fault below comes before a layer's
+//! own, and one of the left part before one of the right.
 ghost use Rattle.std.specs.Prelude.{◌≡◌};
 ghost use Rattle.composition.specs.Faults.{clashes, differs, join_fault, told, deeper, fault_of_renamed, fault_of_hidden, fault_of_joined};
 ghost use Rattle.model.specs.Tests.{lowest};
 
 use crate::rules::Rule;
-use drawing::Outline;
-use model::{Fault, Kind, lowest_below};
+use model::{Fault, Kind, Outline, lowest_below};
 
 // The most atoms that a drawing has.
 const ATOMS: u16 = 16;
 
-// As many layers, or as deep a one, as can be told.
+/// As many layers, or as deep a one, as can be told.
 pub fn told(layer: u16) -> u8
     ensures { result ≡ told layer }
 {
@@ -98,7 +97,7 @@ pub fn join_fault<L: Outline, R: Outline>(left: &L, right: &R) -> Option<Fault>
         .or_else(|| Parts { left, right }.own_fault())
 }
 
-// The old name must be there, and the new one a name that is not.
+/// The old name must be there, and the new one a name that is not.
 pub fn rename_fault<D: Outline>(below: &D, old: u8, new: u8) -> Option<Fault>
     ensures { result ≡ fault_of_renamed (D.Outline.outline below.now) old new }
 {
@@ -109,7 +108,7 @@ pub fn rename_fault<D: Outline>(below: &D, old: u8, new: u8) -> Option<Fault>
         .or_else(|| wrong.then(|| Rule::NewNameIsFree.broken(old)))
 }
 
-// Only an interface name can be hidden.
+/// Only an interface name can be hidden.
 pub fn hide_fault<D: Outline>(below: &D, name: u8) -> Option<Fault>
     ensures { result ≡ fault_of_hidden (D.Outline.outline below.now) name }
 {

@@ -1,4 +1,4 @@
-// A drawing with one of its interface names made private.
+//! A drawing with one of its interface names made private.
 ghost use Rattle.composition.specs.Faults.{fault_of_hidden};
 ghost use Rattle.composition.specs.Meanings.{hidden};
 ghost use Rattle.composition.specs.Outlines.{hidden_outline, sound_or};
@@ -6,10 +6,9 @@ ghost use Rattle.std.specs.Prelude.{◌≡◌, None, Some, option_copied};
 ghost use Rattle.std.proofs.Common.{rules};
 
 use crate::faults::{hide_fault, told};
-use drawing::{Drawing, Outline};
-use model::{Fault, Kind, Names, Round, State};
+use model::{Drawing, Fault, Kind, Names, Outline, Round, State};
 
-// The fault is kept as it was when the name was hidden. It stands beside the drawing below, as a rename's does.
+/// The fault is kept as it was when the name was hidden. It stands beside the drawing below, as a rename's does.
 #[derive(Drop)]
 pub struct Hide<D: Outline> {
     below: D,
@@ -19,7 +18,7 @@ pub struct Hide<D: Outline> {
 }
 
 impl<D: Outline> Hide<D> {
-    // Hides in any drawing. A fault still makes a drawing, which tells it and has no variables and no atoms.
+    /// Hides in any drawing. A fault still makes a drawing, which tells it and has no variables and no atoms.
     pub fn new(below: D, name: u8) -> Hide<D>
         ensures below { result.below ≡ below }
         ensures name { result.name ≡ name }

@@ -1,4 +1,4 @@
-// Two drawings side by side, which share the names that both have. Atoms of the left part come first.
+//! Two drawings side by side, which share the names that both have. Atoms of the left part come first.
 ghost use Rattle.composition.specs.Faults.{fault_of_joined};
 ghost use Rattle.composition.specs.Meanings.{joined};
 ghost use Rattle.composition.specs.Outlines.{joined_kind, joined_outline};
@@ -6,11 +6,10 @@ ghost use Rattle.std.specs.Prelude.{◌≡◌, None, IfNone, IfSome, IsSome};
 ghost use Rattle.std.proofs.Common.{rules};
 
 use crate::faults::{join_fault, told};
-use drawing::{Drawing, Outline};
-use model::{Fault, Kind, Names, Round, State};
+use model::{Drawing, Fault, Kind, Names, Outline, Round, State};
 
-// The fault, and how many atoms the left part has, are kept as they were when the join was made. The fault stands beside the
-// parts, as a rename's does.
+/// The fault, and how many atoms the left part has, are kept as they were when the join was made. The fault stands beside the
+/// parts, as a rename's does.
 #[derive(Drop)]
 pub struct Join<L: Outline, R: Outline> {
     left: L,
@@ -22,7 +21,7 @@ pub struct Join<L: Outline, R: Outline> {
 }
 
 impl<L: Outline, R: Outline> Join<L, R> {
-    // Joins any two drawings. A fault still makes a drawing, which tells it and has no variables and no atoms.
+    /// Joins any two drawings. A fault still makes a drawing, which tells it and has no variables and no atoms.
     pub fn new(left: L, right: R) -> Join<L, R>
         ensures left { result.left ≡ left }
         ensures right { result.right ≡ right }
@@ -46,7 +45,7 @@ impl<L: Outline, R: Outline> Join<L, R> {
     }
 }
 
-// The kind of a name of the whole by its kinds in the parts: external only if it is so wherever it is there.
+/// The kind of a name of the whole by its kinds in the parts: external only if it is so wherever it is there.
 pub fn joined_kind(left: Option<Kind>, right: Option<Kind>) -> Option<Kind>
     ensures { result ≡ joined_kind left right }
 {

@@ -1,5 +1,5 @@
-// Piles: drawings made of drawings, by joining two, by renaming a variable or by hiding one. What is wrong with a
-// pile is judged once, when it is made, and kept with it.
+//! Piles: drawings made of drawings, by joining two, by renaming a variable or by hiding one. What is wrong with a
+//! pile is judged once, when it is made, and kept with it.
 #![tactic(auto)]
 
 mod exchange;

@@ -1,4 +1,4 @@
-// A drawing with a new name for one of its variables.
+//! A drawing with a new name for one of its variables.
 ghost use Rattle.composition.specs.Faults.{fault_of_renamed};
 ghost use Rattle.composition.specs.Meanings.{renamed};
 ghost use Rattle.composition.specs.Outlines.{renamed_outline};
@@ -7,11 +7,10 @@ ghost use Rattle.std.proofs.Common.{rules};
 
 use crate::exchange::Exchange;
 use crate::faults::{rename_fault, told};
-use drawing::{Drawing, Outline};
-use model::{Fault, Kind, Names, Round, State};
+use model::{Drawing, Fault, Kind, Names, Outline, Round, State};
 
-// The fault is kept as it was when the rename was made. It stands beside the drawing below, in no Result with it, since a faulty
-// rename has that drawing too and counts its layers.
+/// The fault is kept as it was when the rename was made. It stands beside the drawing below, in no Result with it, since a faulty
+/// rename has that drawing too and counts its layers.
 #[derive(Drop)]
 pub struct Rename<D: Outline> {
     below: D,
@@ -24,9 +23,9 @@ pub struct Rename<D: Outline> {
 }
 
 impl<D: Drawing> Rename<D> {
-    // Renames in any drawing. A fault still makes a drawing, which tells it and has no variables and no atoms. The old and the new
-    // name go as two numbers through all that renames: nothing is asked of them alone that a struct of both could answer, for any
-    // two may be brought.
+    /// Renames in any drawing. A fault still makes a drawing, which tells it and has no variables and no atoms. The old and the new
+    /// name go as two numbers through all that renames: nothing is asked of them alone that a struct of both could answer, for any
+    /// two may be brought.
     pub fn new(below: D, old: u8, new: u8) -> Rename<D>
         ensures below { result.below ≡ below }
         ensures old { result.old ≡ old }

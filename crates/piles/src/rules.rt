@@ -1,4 +1,4 @@
-// The rules of piles, by the numbers under which a fault tells them.
+//! The rules of piles, by the numbers under which a fault tells them.
 ghost use Rattle.model.specs.Faults.{own};
 ghost use Rattle.piles.specs.Rules.{rule_number};
 ghost use Rattle.std.specs.Prelude.{◌≡◌};
@@ -15,7 +15,7 @@ pub enum Rule {
 }
 
 impl Rule {
-    // The fault of a pile that breaks the rule itself, at this name, or at 0 where no name is meant.
+    /// The fault of a pile that breaks the rule itself, at this name, or at 0 where no name is meant.
     pub fn broken(self, name: u8) -> Fault
         ensures { result ≡ own (rule_number self) name }
     {

@@ -1,4 +1,4 @@
-// What is wrong with a pile, in which layer and at which name.
+//! What is wrong with a pile, in which layer and at which name.
 use crate::asking::*;
 use crate::sketch::Sketch;
 use model::Fault;

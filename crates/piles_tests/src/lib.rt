@@ -1,4 +1,4 @@
-// Tests of piles of gate lists. The expected answers are worked out by hand from the rules.
+//! Tests of piles of gate lists. The expected answers are worked out by hand from the rules.
 #![tactic(auto)]
 
 #[cfg(test)]

@@ -1,7 +1,6 @@
-// What piles tell of names, atoms and choices.
+//! What piles tell of names, atoms and choices.
 use crate::asking::*;
-use drawing::{Drawing, Outline};
-use model::{Kind, Round};
+use model::{Drawing, Kind, Outline, Round};
 use piles::{Hide, Join, Rename};
 use samples::{is_just, not};
 

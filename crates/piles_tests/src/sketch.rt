@@ -1,12 +1,11 @@
-// An outline that is no drawing, to join what gate lists cannot show: other tops, many layers,
-// and atoms that are in nobody's way.
+//! An outline that is no drawing, to join what gate lists cannot show: other tops, many layers,
+//! and atoms that are in nobody's way.
 ghost use Rattle.model.specs.declared.Kind.TheVariants.{External};
 ghost use Rattle.std.specs.Prelude.{◌≡◌, false, ◌||◌, if◌then◌else◌, Some, None, ◌==◌, nat_eq};
 
-use drawing::Outline;
-use model::{Fault, Kind, Names};
+use model::{Fault, Kind, Names, Outline};
 
-// Two external names with one top.
+/// Two external names with one top.
 #[derive(Clone, Copy)]
 pub struct Sketch {
     pub fault: Option<Fault>,

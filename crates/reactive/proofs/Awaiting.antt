@@ -1,4 +1,4 @@
--- No atom awaits itself, directly or through others, exactly when awaiting among variables is acyclic. Assumes nothing.
+-- No atom awaits itself, directly or through others, exactly when awaiting among variables is acyclic.
 use Rattle.std.proofs.Common.{◌≡◌, ℕ, ◌<◌, true, false, List, [], ◌∷◌, subst, ⊎_elim}
 use Rattle.std.proofs.lemmas.Bool.{both_ways, cases_Bool}
 use Rattle.model.specs.Meanings.{Meaning}

@@ -1,5 +1,5 @@
 -- In a reactive module each round can be completed, atom after atom in a consistent order, whatever the external
--- variables are given. Assumes nothing.
+-- variables are given.
 use Rattle.std.proofs.Common.{◌≡◌, ℕ, List, [], ◌∷◌, sym, refl, ◌∙◌, subst, inl, inr, ⊎_elim}
 use Rattle.theory.specs.Members.{Member, Distinct}
 use Rattle.reactive.specs.Reactive.{Variables, Valuation, Typed, Agree, Module, Executable, Empty, IsModule, Consistent, IsOrder, IsState, Initially, Follows}

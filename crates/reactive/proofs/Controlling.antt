@@ -1,4 +1,4 @@
--- Counts, and what it takes for each name to have one controller. Assumes nothing.
+-- Counts, and what it takes for each name to have one controller.
 use Rattle.model.proofs.Counted.{some_counted, only_one, counted_once}
 use Rattle.std.proofs.Common.{◌≡◌, ℕ, ◌<◌, true, false, not, eqb, ◌⊎◌, ◌↔◌, is_some, Some, None, Option, refl, ap, inl, inr, ⊎_elim, arith}
 use Rattle.std.proofs.lemmas.Bool.{false≢true, both_ways, and_cases, and_left, and_right, cases_Bool, eq-eqb, eqb-true, not-false, not_from_true}

@@ -1,5 +1,4 @@
 -- A drawing is fit exactly when nothing is wrong with it, its module is a reactive module, and it stays within the limits.
--- Assumes nothing.
 use Rattle.std.proofs.Common.{◌≡◌, ℕ, zero, suc, ◌+◌, ◌<◌, ◌≤◌, false, List, [], ◌∷◌, None, sym, ap, ◌∙◌, inl, inr, ⊎_elim, not-suc-le-zero, arith}
 use Rattle.std.proofs.lemmas.Bool.{true≢false, cases_eq, le-ltb, ltb-false}
 use Rattle.composition.specs.Faults.{is_private}

@@ -1,4 +1,4 @@
--- Where a join, rename or hide has no fault, sealing judges the composed, renamed or hidden module. Assumes nothing.
+-- Where a join, rename or hide has no fault, sealing judges the composed, renamed or hidden module.
 use Rattle.std.proofs.Common.{◌≡◌, ◌↔◌, None}
 use Rattle.composition.specs.Meanings.{renamed, hidden, joined}
 use Rattle.model.specs.Meanings.{Meaning}

@@ -1,4 +1,4 @@
--- What the choices of an atom lead to. Assumes nothing.
+-- What the choices of an atom lead to.
 use Rattle.std.proofs.Common.{◌≡◌, ℕ, ◌<◌, ◌≤◌, true, ℤ, pos, negsuc, sym, ap, ◌∙◌, arith}
 use Rattle.model.specs.Meanings.{Valuation, Alike, Meaning}
 use Rattle.model.specs.declared.Round.{Round}

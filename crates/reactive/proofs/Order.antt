@@ -1,5 +1,4 @@
 -- Where no atom awaits itself, the atoms can be put into an order in which each comes after those that it awaits.
--- Assumes nothing.
 use Rattle.std.proofs.Common.{◌≡◌, ℕ, ◌<◌, Bool, true, false, List, [], ◌∷◌, ⊎_elim}
 use Rattle.std.proofs.lemmas.Bool.{both_ways, cases_Bool}
 use Rattle.model.specs.Meanings.{Meaning}

@@ -1,4 +1,4 @@
--- Joins, renames and hides are the published operations on what they are made of. Assumes nothing.
+-- Joins, renames and hides are the published operations on what they are made of.
 use Rattle.std.proofs.Common.{◌≡◌, ℕ, List, None, sym, ap, ◌∙◌}
 use Rattle.composition.proofs.Hiding.{yields_hidden}
 use Rattle.composition.proofs.Joining.{yields_joined}

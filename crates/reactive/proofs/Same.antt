@@ -1,4 +1,4 @@
--- What is the same as a reactive module is one. Assumes nothing.
+-- What is the same as a reactive module is one.
 use Rattle.std.proofs.Common.{ℕ, ◌↔◌, map, sym, ap, ◌∙◌, subst, inl, inr}
 use mathlib.Core.Logic.Iff
 use Rattle.theory.proofs.Members.{member_same, member_map}

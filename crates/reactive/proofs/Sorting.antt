@@ -1,4 +1,4 @@
--- Lists put into an order in which nothing comes before what it stands above. Assumes nothing.
+-- Lists put into an order in which nothing comes before what it stands above.
 use Rattle.std.proofs.Common.{◌≡◌, Bool, true, false, not, ◌⊎◌, List, [], ◌∷◌, ◌++◌, filter, sym, refl, subst, inl, inr, ⊎_elim}
 use Rattle.std.proofs.lemmas.Bool.{both_ways, cases_Bool, cond_both, not-true, not_from_false}
 use Rattle.theory.specs.Members.{Member, Distinct}

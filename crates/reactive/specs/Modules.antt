@@ -1,4 +1,4 @@
--- The module that a drawing means, and the limits that sealing sets. Assumes nothing.
+-- The module that a drawing means, and the limits that sealing sets.
 use Rattle.std.specs.Prelude.{◌≡◌, ℕ, ◌+◌, ◌<◌, ◌≤◌, Bool, true, ℤ, pos, negsuc, Some}
 use Rattle.model.specs.Meanings.{OutlineFacts, ChoiceFacts, Meaning}
 use Rattle.model.specs.declared.Kind.TheVariants.{Private, Interface, External}

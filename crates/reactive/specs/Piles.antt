@@ -1,5 +1,5 @@
 -- What a join, a rename and a hide of drawings are, told of the drawings that they are made of: the published operation
--- on their modules, with its initial states and successors. Assumes nothing.
+-- on their modules, with its initial states and successors.
 use Rattle.std.specs.Prelude.{◌≡◌, ℕ, true, ◌↔◌, List, length, None}
 use Rattle.composition.specs.Faults.{fault_of_renamed, fault_of_hidden, fault_of_joined}
 use Rattle.composition.specs.Meanings.{renamed, hidden, joined}

@@ -1,5 +1,4 @@
 -- Reactive modules: what an atom and a module are, how a module moves in rounds, and the operations on modules.
--- Assumes nothing.
 use Rattle.std.specs.Prelude.{◌≡◌, ℕ, ◌⊎◌, ◌↔◌, List, [], ◌∷◌, ◌≢◌}
 use Rattle.std.proofs.Common.{inl, inr}
 use Rattle.model.specs.Exchange.{exchange}

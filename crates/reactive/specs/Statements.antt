@@ -1,4 +1,4 @@
--- What the modules of drawings have to do with reactive modules. Assumes nothing.
+-- What the modules of drawings have to do with reactive modules.
 use Rattle.std.specs.Prelude.{◌≡◌, ℕ, true, false, ◌↔◌, List, map, length, is_some, Some, None}
 use Rattle.composition.specs.Faults.{fault_of_renamed, fault_of_hidden, fault_of_joined}
 use Rattle.composition.specs.Meanings.{renamed, hidden, joined}

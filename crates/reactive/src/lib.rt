@@ -1,5 +1,5 @@
-// Reactive modules, and how the modules of drawings answer to their definition. Each function does nothing and stands for a
-// theorem, its contract, so that no check passes without the theorem's proof.
+//! Reactive modules, and how the modules of drawings answer to their definition. Each function does nothing and stands for a
+//! theorem, its contract, so that no check passes without the theorem's proof.
 #![tactic(auto)]
 
 ghost use Rattle.reactive.specs.Statements.{FitExactlyWhenAModuleWithinLimits, StatesAreThePublishedOnes, JoinsAreCompositions, RenamesAreRenamings, HidesAreHidings, OperationsAreJudgedRightly, FitUnitsHaveAnOrder, FitUnitsCompleteEveryRound, FitUnitsHaveAnInitialState};

@@ -1,4 +1,4 @@
-// Drawings, and questions after what a drawing tells, that the tests of several crates share.
+//! Drawings, and questions after what a drawing tells, that the tests of several crates share.
 #![tactic(auto)]
 
 mod asking;

@@ -1,4 +1,4 @@
-// What the tests of each vocabulary ask alike. A check that fails names the line that went wrong.
+//! What the tests of each vocabulary ask alike. A check that fails names the line that went wrong.
 use crate::lines::{BLANK_LINES, NAND, OUTLINE_OF_NAND, QUESTIONS};
 use crate::running::{answer, mistake};
 use commands::{Mistake, Vocabulary};
@@ -37,7 +37,7 @@ pub fn check_outline(heap: Global, vocabulary: Vocabulary) -> Result<(), Fail> {
     expect(lines.next() == None, "a line too many")
 }
 
-// Each line is refused, for the mistake beside it.
+/// Each line is refused, for the mistake beside it.
 pub fn check_refused(
     heap: Global,
     session: &mut Session,
@@ -56,7 +56,7 @@ pub fn check_not_text(heap: Global, session: &mut Session) -> Result<(), Fail> {
     )
 }
 
-// `a` stands for a gate list still, after each of these lines is refused, which would have replaced it.
+/// `a` stands for a gate list still, after each of these lines is refused, which would have replaced it.
 pub fn check_alters_nothing(
     heap: Global,
     session: &mut Session,

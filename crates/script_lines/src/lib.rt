@@ -1,4 +1,4 @@
-// What the tests of each vocabulary share: how a line is run, and what each vocabulary answers alike.
+//! What the tests of each vocabulary share: how a line is run, and what each vocabulary answers alike.
 #![tactic(auto)]
 
 mod checks;

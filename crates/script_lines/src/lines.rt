@@ -1,11 +1,11 @@
-// Lines, and what is answered to them or what they are refused for.
+//! Lines, and what is answered to them or what they are refused for.
 use commands::Mistake;
 
 pub const NAND: &str = "gates d 01000102FF0002FF03FF";
 
 pub const BLANK_LINES: [&str; 5] = ["", " \t\r", "# new", "  #new", "#"];
 
-// Lines one after the other, each with its answer.
+/// Lines one after the other, each with its answer.
 pub const QUESTIONS: [(&str, &str); 7] = [
     (
         " gates\td  0100000005  ",
@@ -41,7 +41,7 @@ pub const OUTLINE_OF_NAND: [&str; 7] = [
     "  atom 1: controls 3; reads nothing; awaits 2; 2 initial and 2 update choices",
 ];
 
-// Lines that are refused where only `a` was made, one of every sort.
+/// Lines that are refused where only `a` was made, one of every sort.
 pub const WRONG_LINES: [(&str, Mistake); 15] = [
     ("frob", Mistake::UnknownCommand),
     ("New", Mistake::UnknownCommand),

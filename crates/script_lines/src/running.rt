@@ -1,9 +1,9 @@
-// How the tests run a line.
+//! How the tests run a line.
 use commands::{FileBytes, Mistake};
 use sessions::Session;
 use std::alloc::{AllocError, Global};
 
-// The only file is `zeros`, a state of zeros.
+/// The only file is `zeros`, a state of zeros.
 #[derive(Drop)]
 pub struct Shelf {
     pub heap: Global,
@@ -18,13 +18,13 @@ impl FileBytes for Shelf {
     }
 }
 
-// What the line is answered, or an empty text.
+/// What the line is answered, or an empty text.
 pub fn answer(heap: Global, session: &mut Session, line: &str) -> Result<String, Mistake> {
     let answered = session.run(&Shelf { heap }, line.as_bytes())?;
     Ok(answered.unwrap_or(String::new(heap)))
 }
 
-// The mistake that the line is refused for, if it is.
+/// The mistake that the line is refused for, if it is.
 pub fn mistake(heap: Global, session: &mut Session, line: &[u8]) -> Option<Mistake> {
     session.run(&Shelf { heap }, line).err()
 }

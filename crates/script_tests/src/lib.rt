@@ -1,4 +1,4 @@
-// Tests of scripts over gate lists, line by line.
+//! Tests of scripts over gate lists, line by line.
 #![tactic(auto)]
 
 #[cfg(test)]

@@ -1,4 +1,4 @@
--- Drawings of the bytes that a source stands for. Assumes nothing.
+-- Drawings of the bytes that a source stands for.
 use Rattle.std.proofs.Common.{◌≡◌, ℕ, List, Ok, vec_items, Vec, subst}
 use Rattle.std.specs.declared.alloc.Global.{Global}
 use Rattle.commands.specs.Sources.{Loads}

@@ -1,5 +1,5 @@
 -- What a session keeps that knows the commands for gate lists only: every name stands for a gate list, and a line that is
--- refused alters nothing, even where memory is wanting. Assumes nothing.
+-- refused alters nothing, even where memory is wanting.
 use Rattle.std.specs.Prelude.{◌≡◌, ℕ, Bool, true, false, cond, ◌⊎◌, List, [], ◌∷◌, Some, None, Ok, Err, vec_items, string_bytes, Option, Result, IfErr}
 use Rattle.std.specs.Borrow.{Bor}
 use Rattle.std.specs.Str.{bytes_eq as same_text}

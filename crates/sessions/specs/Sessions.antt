@@ -1,4 +1,4 @@
--- What a session keeps. Assumes nothing.
+-- What a session keeps.
 use Rattle.std.specs.Prelude.{◌≡◌, ℕ, ◌⊎◌, List, [], ◌∷◌, Some, None, Ok, Err, vec_items, string_bytes, Option, Result}
 use Rattle.std.specs.Borrow.{Bor}
 use Rattle.any_drawing.specs.Leaves.{MeansGates, MeansTable}

@@ -1,4 +1,4 @@
--- What the names of a script stand for. Assumes nothing.
+-- What the names of a script stand for.
 use Rattle.std.specs.Prelude.{◌≡◌, ℕ, Bool, false, cond, ◌||◌, List, [], ◌∷◌, Some, None, box_value, Option}
 use Rattle.std.specs.BTreeMap.{get_by_text}
 use Rattle.std.specs.Str.{bytes_eq as same_text}

@@ -1,4 +1,4 @@
-// The script language: a session runs a script line by line.
+//! The script language: a session runs a script line by line.
 #![tactic(auto)]
 
 mod made;

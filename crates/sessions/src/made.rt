@@ -1,12 +1,11 @@
-// What a name of a script can stand for.
+//! What a name of a script can stand for.
 use crate::sealed::Sealed;
 use any_drawing::{AnyDrawing, Node};
-use drawing::Outline;
-use model::{Question, State};
+use model::{Outline, Question, State};
 use std::alloc::{AllocError, Global};
 use wording::{ask_text, opening_text, outline_text, verdict_text};
 
-// A unit is boxed, since it is much larger than a drawing.
+/// A unit is boxed, since it is much larger than a drawing.
 #[derive(Drop)]
 pub enum Made {
     Drawing(AnyDrawing),
@@ -25,7 +24,7 @@ fn what(drawing: &AnyDrawing) -> &'static str {
 }
 
 impl Made {
-    // What is answered when it is made under this name.
+    /// What is answered when it is made under this name.
     pub fn opening(&self, heap: Global, name: &str) -> Result<String, AllocError> {
         match self {
             Made::Drawing(drawing) => opening_text(heap, name, what(drawing), drawing.fault()),
@@ -46,12 +45,12 @@ impl Made {
         }
     }
 
-    // What is answered to `outline`: of a unit, the outline of its drawing.
+    /// What is answered to `outline`: of a unit, the outline of its drawing.
     pub fn outline(&self, heap: Global) -> Result<String, AllocError> {
         outline_text(heap, self.drawing())
     }
 
-    // What is answered to `ask`: of a unit, after a choice of its drawing.
+    /// What is answered to `ask`: of a unit, after a choice of its drawing.
     pub fn ask(&self, heap: Global, question: &Question<State>) -> Result<String, AllocError> {
         ask_text(heap, self.drawing(), question)
     }

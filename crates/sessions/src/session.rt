@@ -1,4 +1,4 @@
-// What a script has made so far.
+//! What a script has made so far.
 ghost use Rattle.commands.specs.declared.mistake.Mistake.TheVariants.{NotText};
 ghost use Rattle.sessions.specs.GateLists.{KeepsGateLists};
 ghost use Rattle.sessions.specs.Sessions.{Ran};
@@ -9,7 +9,7 @@ use crate::things::Things;
 use commands::{FileBytes, Mistake, Vocabulary, parse};
 use std::alloc::Global;
 
-// It runs the commands of one vocabulary, which it keeps.
+/// It runs the commands of one vocabulary, which it keeps.
 #[derive(Drop)]
 pub struct Session {
     vocabulary: Vocabulary,
@@ -33,8 +33,8 @@ impl Session {
         }
     }
 
-    // Does what a line asks for, and tells what to answer, if anything. A line that is refused alters nothing,
-    // unless memory ran out over it.
+    /// Does what a line asks for, and tells what to answer, if anything. A line that is refused alters nothing,
+    /// unless memory ran out over it.
     pub fn run<F: FileBytes>(&mut self, files: &F, line: &[u8]) -> Result<Option<String>, Mistake>
         ensures vocabulary { self.new.vocabulary ≡ self.old.vocabulary }
         ensures things { Ran self.old.vocabulary line.now self.old.things self.new.things result }

@@ -1,4 +1,4 @@
-// What the names of a script stand for.
+//! What the names of a script stand for.
 ghost use Rattle.std.proofs.Props.{props};
 ghost use Rattle.std.specs.BTreeMap.{IsOrdered};
 ghost use Rattle.std.specs.String.{string_cmp};

@@ -1,4 +1,4 @@
-// What right lines are answered.
+//! What right lines are answered.
 use commands::Vocabulary;
 use script_lines::{check_blank_lines, check_outline, check_questions};
 use std::test::Fail;

@@ -1,4 +1,4 @@
-// Byte strings at the edges of what a hex digit is. Both vocabularies read them by the one function.
+//! Byte strings at the edges of what a hex digit is. Both vocabularies read them by the one function.
 use commands::{Mistake, bytes_of_hex};
 use std::test::Fail;
 

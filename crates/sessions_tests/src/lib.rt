@@ -1,4 +1,4 @@
-// Tests of scripts that know every command, line by line.
+//! Tests of scripts that know every command, line by line.
 #![tactic(auto)]
 
 #[cfg(test)]

@@ -1,4 +1,4 @@
-// Drawings that are opened, piled and sealed, line by line.
+//! Drawings that are opened, piled and sealed, line by line.
 ghost use Rattle.std.specs.Prelude.{◌<◌};
 
 use commands::Vocabulary;

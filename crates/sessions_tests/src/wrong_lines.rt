@@ -1,4 +1,4 @@
-// Lines that are refused, one of every sort.
+//! Lines that are refused, one of every sort.
 use commands::{Mistake, Vocabulary};
 use script_lines::{WRONG_LINES, check_alters_nothing, check_not_text, check_refused, mistake};
 use sessions::Session;

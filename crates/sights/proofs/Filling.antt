@@ -1,4 +1,4 @@
--- Going through all values that an atom sees is going through all rows of them. Assumes nothing.
+-- Going through all values that an atom sees is going through all rows of them.
 use Rattle.std.proofs.Common.{◌≡◌, ℕ, zero, suc, ◌+◌, ◌-◌, ◌<◌, ◌≤◌, true, false, cond, ltb, List, [], ◌∷◌, ◌++◌, map, length, take, set, replicate, is_some, None, Option, sym, refl, ap, ◌∙◌, ap₂, append_assoc, append-nil, add-one, arith, length-set, take_all, take-suc-set}
 use lib.Seq.{set-get_or}
 use Rattle.std.proofs.lemmas.Bool.{cond-true, cond-false, cond_both, lt-ltb, le-ltb}

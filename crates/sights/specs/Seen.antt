@@ -1,4 +1,4 @@
--- Going through the values that an atom sees, place by place. Assumes nothing.
+-- Going through the values that an atom sees, place by place.
 use Rattle.std.specs.Prelude.{◌≡◌, ℕ, zero, suc, ◌+◌, ◌-◌, ◌<◌, ◌≤◌, Bool, cond, not, ◌&&◌, ◌||◌, List, Some, None, Option, nat_lt, slice_set}
 use Rattle.std.specs.Option.{option_or}
 use Rattle.model.specs.Meanings.{OutlineFacts, ChoiceFacts}

@@ -1,5 +1,4 @@
 -- Values at which an atom has no open choice, at which an open one gives a value out of range, or at which it fails in either way.
--- Assumes nothing.
 use Rattle.std.specs.Prelude.{◌≡◌, ℕ, Bool, true, false, cond, ◌||◌, List, [], ◌∷◌, Some, None, Option}
 use Rattle.std.specs.Option.{option_or}
 use Rattle.model.specs.Meanings.{Meaning}

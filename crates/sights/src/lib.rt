@@ -1,4 +1,4 @@
-// What atoms do at the values that they see: where one has no open choice, and where an open one gives a value out of range.
+//! What atoms do at the values that they see: where one has no open choice, and where an open one gives a value out of range.
 #![tactic(auto)]
 
 mod look;

@@ -1,9 +1,9 @@
-// Which atom is looked at, what for, and what has to be known of it.
+//! Which atom is looked at, what for, and what has to be known of it.
 use model::{Names, State};
 
-// What is looked for: values at which no choice is open, those at which an open one gives a value out of range, or those at which
-// the atom fails in either way. The three are named, no closures: each clause that names a test would have to say of a closure
-// what it answers, of which drawing, round and atom, at all values.
+/// What is looked for: values at which no choice is open, those at which an open one gives a value out of range, or those at which
+/// the atom fails in either way. The three are named, no closures: each clause that names a test would have to say of a closure
+/// what it answers, of which drawing, round and atom, at all values.
 #[derive(Clone, Copy, PartialEq, Eq, Debug)]
 pub enum Test {
     NothingOpen,
@@ -11,9 +11,9 @@ pub enum Test {
     Fails,
 }
 
-// The atom's number, how many choices it has in the round, the names that it controls, the top of each name, and the largest
-// value at each place: those of the 32 old values first, then those of the new ones, 0 for what the atom does not see. They are
-// one array of 64 places, since one walk goes through old and new values alike.
+/// The atom's number, how many choices it has in the round, the names that it controls, the top of each name, and the largest
+/// value at each place: those of the 32 old values first, then those of the new ones, 0 for what the atom does not see. They are
+/// one array of 64 places, since one walk goes through old and new values alike.
 #[derive(Clone, Copy)]
 pub struct Look {
     pub test: Test,

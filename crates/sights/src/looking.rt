@@ -1,4 +1,4 @@
-// What an atom sees, and the first values at which what is looked for is so.
+//! What an atom sees, and the first values at which what is looked for is so.
 ghost use Rattle.std.specs.Prelude.{◌≡◌, ℕ, ◌-◌, ◌<◌, ◌≤◌, is_some};
 ghost use Rattle.model.specs.States.{value};
 ghost use Rattle.sights.specs.Seen.{top_if, top_at};
@@ -8,8 +8,7 @@ ghost use Rattle.units.specs.Sealing.{old_names, in_some_round};
 use crate::look::{Look, Test};
 use crate::search::Search;
 use crate::sight::Sight;
-use drawing::{Drawing, Outline};
-use model::{Round, State};
+use model::{Drawing, Outline, Round, State};
 use std::array::from_fn;
 
 fn top_if(seen: bool, top: u8) -> u8
@@ -88,8 +87,8 @@ impl<D: Drawing> Viewer<'_, D> {
     }
 }
 
-// The first values in range of what the atom sees at which what is looked for is so, if there are any. It goes through all of
-// them, so it takes long where they are many.
+/// The first values in range of what the atom sees at which what is looked for is so, if there are any. It goes through all of
+/// them, so it takes long where they are many.
 pub fn first_sight<D: Drawing>(drawing: &D, test: Test, atom: u8) -> Option<Sight>
     ensures first { result ≡ first_sight (D.Drawing.meaning drawing.now) test atom }
     ensures told { SightTold (D.Drawing.meaning drawing.now) test atom result }

@@ -1,4 +1,4 @@
-// The three tests at given old and new values, and all values in range gone through for the first at which one passes.
+//! The three tests at given old and new values, and all values in range gone through for the first at which one passes.
 ghost use Rattle.model.specs.States.{value};
 ghost use Rattle.model.specs.Tests.{some};
 ghost use Rattle.sights.specs.declared.look.Test.TheVariants.{Fails};
@@ -8,10 +8,9 @@ ghost use Rattle.units.specs.Sealing.{within};
 
 use crate::look::{Look, Test};
 use crate::sight::Sight;
-use drawing::Drawing;
-use model::{any_below, value_of};
+use model::{Drawing, any_below, value_of};
 
-// The drawing, and what is looked at.
+/// The drawing, and what is looked at.
 #[derive(Drop)]
 pub struct Search<'a, D> {
     pub drawing: &'a D,
@@ -99,9 +98,9 @@ impl<D: Drawing> Search<'_, D> {
         (place..64).find(|next| self.look.ranges[*next as usize] != 0)
     }
 
-    // The first values at the places from this one on, where all are 0 so far. Places that have no other value are passed over.
-    // The values are a loop, no find_map: for a closure that calls this function nothing is inferred, and it would repeat the
-    // whole contract.
+    /// The first values at the places from this one on, where all are 0 so far. Places that have no other value are passed over.
+    /// The values are a loop, no find_map: for a closure that calls this function nothing is inferred, and it would repeat the
+    /// whole contract.
     pub fn first_from(&self, place: u8, sight: Sight) -> Option<Sight>
         requires inside { place ≤ 64 }
         requires blank { BlankFrom place sight }

@@ -1,4 +1,4 @@
-// Values that an atom sees in a round: old ones and new ones, 0 at the names that it does not see.
+//! Values that an atom sees in a round: old ones and new ones, 0 at the names that it does not see.
 ghost use Rattle.std.specs.Prelude.{◌≡◌, ◌<◌};
 ghost use Rattle.sights.specs.Seen.{put};
 
@@ -12,7 +12,7 @@ pub struct Sight {
 }
 
 impl Sight {
-    // With this value at the place: an old value below place 32, a new one from there on.
+    /// With this value at the place: an old value below place 32, a new one from there on.
     pub fn with(self, place: u8, value: u8) -> Sight
         requires { place < 64 }
         ensures { result ≡ put place self value }

@@ -1,4 +1,4 @@
--- Opening keeps its promises. Assumes nothing.
+-- Opening keeps its promises.
 use Rattle.std.proofs.Common.{◌≡◌, ℕ, ◌≤◌, List, length, Some, None, sym, refl, ap, ◌∙◌, subst, arith}
 use Rattle.language.proofs.TableFronts.{faults_are_the_first}
 use Rattle.language.proofs.Tables.{tables_read_back}

@@ -1,4 +1,4 @@
--- Two variables, or two faults, are equal in at most one way. Assumes nothing.
+-- Two variables, or two faults, are equal in at most one way.
 use Rattle.std.proofs.Common.{◌≡◌, ℕ, cond, eqb, List, [], ◌∷◌, length, get_or, Some, None, Option, sym, refl, ap, ◌∙◌}
 use mathlib.Core.HLevel.{collapsible→set}
 use base.Stored.{Coded-set, coded_ℕ, coded_list}

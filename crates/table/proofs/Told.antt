@@ -1,4 +1,4 @@
--- What an opened table tells is what its bytes say. Assumes nothing.
+-- What an opened table tells is what its bytes say.
 use Rattle.model.specs.Tests.{count}
 use Rattle.std.proofs.Common.{Bor, ◌≡◌, ℕ, zero, suc, ◌+◌, ◌<◌, ◌≤◌, Bool, true, false, cond, List, [], length, get_or, Some, None, Ok, Err, Option, Result, sym, refl, ap, ◌∙◌, subst, zero-le, arith}
 use mathlib.Core.Logic.{∥∥₁_elim, ∥∥₁_map}

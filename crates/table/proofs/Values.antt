@@ -1,4 +1,4 @@
--- What a choice's expressions are worth is what the table means. Assumes nothing.
+-- What a choice's expressions are worth is what the table means.
 use Rattle.model.specs.Tests.{count}
 use Rattle.std.proofs.Common.{◌≡◌, ℕ, Bool, true, false, List, [], ℤ, pos, Some, None, Option, sym, refl, ap, ◌∙◌, subst}
 use Rattle.std.proofs.ByRecursion.{All-get_or}

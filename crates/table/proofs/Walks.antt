@@ -1,4 +1,4 @@
--- Steps of walking over items. Assumes nothing.
+-- Steps of walking over items.
 use Rattle.std.proofs.Common.{◌≡◌, ℕ, zero, suc, ◌+◌, List, sym, refl, ap, ◌∙◌, add-one}
 use Rattle.table.specs.Items.{after_item, item_place}
 

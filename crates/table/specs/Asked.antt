@@ -1,4 +1,4 @@
--- What is found of an atom and of a choice of a table. Assumes nothing.
+-- What is found of an atom and of a choice of a table.
 use Rattle.std.specs.Prelude.{◌≡◌, ℕ, suc, ◌<◌, ◌≤◌, List, length, Some, None, Option}
 use Rattle.std.specs.List.{slice_get}
 use Rattle.model.specs.declared.Round.{Round}

@@ -1,4 +1,4 @@
--- Items: a byte with a length, and as many bytes after it. Assumes nothing.
+-- Items: a byte with a length, and as many bytes after it.
 use Rattle.std.specs.Prelude.{ℕ, zero, suc, ◌+◌, List, take, drop, slice_index}
 
 -- the place after the item that stands at place k

@@ -1,4 +1,4 @@
--- What an opened table holds, part by part. Assumes nothing.
+-- What an opened table holds, part by part.
 use Rattle.model.specs.Tests.{count}
 use Rattle.std.specs.Prelude.{ℕ, Bool, true, false, List, [], Some, None, Option}
 use Rattle.std.specs.List.{slice_get}

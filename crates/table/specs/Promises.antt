@@ -1,4 +1,4 @@
--- What opening a table promises of written forms and of faults. Assumes nothing.
+-- What opening a table promises of written forms and of faults.
 use Rattle.std.specs.Prelude.{◌≡◌, ℕ, ◌≤◌, List, length, take, None}
 use Rattle.model.specs.Meanings.{Meaning}
 use Rattle.language.specs.Statements.{FirstFault, LeftOver, fault_at}

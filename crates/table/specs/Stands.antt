@@ -1,4 +1,4 @@
--- Where an item stands. Assumes nothing.
+-- Where an item stands.
 use Rattle.std.specs.Prelude.{◌≡◌, ℕ, List}
 use Rattle.table.specs.declared.items.Item.{Item}
 

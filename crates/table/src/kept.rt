@@ -1,4 +1,4 @@
-// An opened table.
+//! An opened table.
 ghost use Rattle.layout.specs.Read.{Read};
 ghost use Rattle.std.specs.Prelude.{◌<◌};
 ghost use Rattle.std.specs.Result.{ForErr};
@@ -11,7 +11,7 @@ mod asking;
 pub mod drawn;
 mod opening;
 
-// A copy of the bytes, or how many they were where there is no room for them; and where their parts lie, or their fault.
+/// A copy of the bytes, or how many they were where there is no room for them; and where their parts lie, or their fault.
 #[derive(Clone, Copy)]
 pub struct Table {
     bytes: Result<Row<u8, 4096>, usize>,

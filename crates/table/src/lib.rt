@@ -1,4 +1,4 @@
-// Byte tables: a drawing written as bytes, kept as it was brought and asked in place.
+//! Byte tables: a drawing written as bytes, kept as it was brought and asked in place.
 #![tactic(auto)]
 
 mod items;

@@ -1,11 +1,10 @@
-// Questions that the tests ask of a table.
-use drawing::{Drawing, Outline};
-use model::{Fault, Kind};
+//! Questions that the tests ask of a table.
+use model::{Drawing, Fault, Kind, Outline};
 use samples::{Moment, has_sets, opens_just};
 use std::process::Abort;
 use table::Table;
 
-// Is this what is told of these bytes when they are opened?
+/// Is this what is told of these bytes when they are opened?
 pub fn check_fault(rt: &impl Abort, bytes: &[u8], fault: Option<Fault>) {
     assert_eq!(rt;
         Table::open(bytes).fault(),
@@ -15,12 +14,12 @@ pub fn check_fault(rt: &impl Abort, bytes: &[u8], fault: Option<Fault>) {
     );
 }
 
-// Are these the atom's sets, controlled, read and awaited?
+/// Are these the atom's sets, controlled, read and awaited?
 pub fn check_sets(rt: &impl Abort, table: &Table, atom: u8, sets: [&[u8]; 3]) {
     assert!(rt; has_sets(table, atom, sets), "the sets of atom {atom}");
 }
 
-// Is this the name's kind and top?
+/// Is this the name's kind and top?
 pub fn check_variable(rt: &impl Abort, table: &Table, name: u8, kind: Option<Kind>, top: u8) {
     assert_eq!(rt;
         (table.kind(name), table.top(name)),
@@ -29,7 +28,7 @@ pub fn check_variable(rt: &impl Abort, table: &Table, name: u8, kind: Option<Kin
     );
 }
 
-// Are these choices of the atom open, and no others?
+/// Are these choices of the atom open, and no others?
 pub fn check_open(rt: &impl Abort, table: &Table, atom: u8, moment: Moment, open: &[u8]) {
     assert!(rt;
         opens_just(table, atom, moment, open),
@@ -37,7 +36,7 @@ pub fn check_open(rt: &impl Abort, table: &Table, atom: u8, moment: Moment, open
     );
 }
 
-// Does the choice of the only atom give these numbers to these names?
+/// Does the choice of the only atom give these numbers to these names?
 pub fn check_gives(
     rt: &impl Abort,
     table: &Table,

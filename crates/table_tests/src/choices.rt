@@ -1,8 +1,7 @@
-// What the choices of a table do.
+//! What the choices of a table do.
 use crate::asking::{check_fault, check_gives, check_open, check_sets, check_variable};
 use crate::building::{push_highest, push_longest_truth, push_lowest};
-use drawing::{Drawing, Outline};
-use model::{Fault, Kind, Round};
+use model::{Drawing, Fault, Kind, Outline, Round};
 use samples::{Moment, TOGGLE};
 use std::test::Fail;
 use table::Table;

@@ -1,4 +1,4 @@
-// What opening a table finds wrong, and where.
+//! What opening a table finds wrong, and where.
 use crate::asking::check_fault;
 use model::Fault;
 use samples::TOGGLE;

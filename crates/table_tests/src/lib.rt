@@ -1,4 +1,4 @@
-// Tests of byte tables through what every drawing tells. The expected answers are worked out from the rules of the format.
+//! Tests of byte tables through what every drawing tells. The expected answers are worked out from the rules of the format.
 #![tactic(auto)]
 
 #[cfg(test)]

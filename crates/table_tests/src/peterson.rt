@@ -1,8 +1,7 @@
-// Two processes that take turns in a critical section. Names 0 and 1 are the first one's counter (0 outside, 1 requesting, 2
-// inside) and flag, 2 and 3 the second one's. In a round a process goes on or sleeps, by the old values alone.
+//! Two processes that take turns in a critical section. Names 0 and 1 are the first one's counter (0 outside, 1 requesting, 2
+//! inside) and flag, 2 and 3 the second one's. In a round a process goes on or sleeps, by the old values alone.
 use crate::asking::{check_fault, check_gives, check_open, check_sets, check_variable};
-use drawing::{Drawing, Outline};
-use model::{Fault, Kind, Round, State};
+use model::{Drawing, Fault, Kind, Outline, Round, State};
 use samples::Moment;
 use std::process::Abort;
 use table::Table;

@@ -1,4 +1,4 @@
-// Tables as long as they may be, and faults at the last places that they can have.
+//! Tables as long as they may be, and faults at the last places that they can have.
 use crate::asking::check_fault;
 use crate::building::{LastGuard, long_table};
 use model::Fault;

@@ -1,4 +1,4 @@
--- Evidence on a test over a system whose reachable states are listed. Assumes nothing.
+-- Evidence on a test over a system whose reachable states are listed.
 use Rattle.std.proofs.Common.{◌≡◌, Bool, true, false, ◌⊎◌, List, [], ◌∷◌, sym, refl, ap, ◌∙◌, inl, inr, ⊎_elim}
 use Rattle.std.proofs.lemmas.Bool.{both_ways, cases_Bool}
 use Rattle.theory.specs.Members.{Member, Exactly}

@@ -1,4 +1,4 @@
--- Members of lists that are made of others, and how many members a list without repetition has. Assumes nothing.
+-- Members of lists that are made of others, and how many members a list without repetition has.
 use Rattle.std.proofs.Common.{◌≡◌, ℕ, suc, ◌*◌, ◌≤◌, Bool, true, ◌⊎◌, List, [], ◌∷◌, ◌++◌, map, length, filter, sym, refl, ap, ◌∙◌, subst, inl, inr, ⊎_elim, zero-le, suc-mul, zero-mul, arith, length-append}
 use Rattle.std.specs.List.{flat_map}
 use Rattle.std.proofs.lemmas.Bool.{both_ways, cond_both}

@@ -1,4 +1,4 @@
--- Reachable states of a transition system, and evidence on a test over them. Assumes nothing.
+-- Reachable states of a transition system, and evidence on a test over them.
 use Rattle.std.proofs.Common.{◌≡◌, Bool, true, List, [], ◌∷◌, ◌++◌, map, sym, refl, ap, subst, inl, inr}
 use Rattle.theory.specs.Members.{Member, Distinct}
 use Rattle.theory.specs.Runs.{Continues, Trajectory, Ends, Reachable, SimpleRun, ClosedList, FalsifyingRun, Falsified, Simulation}

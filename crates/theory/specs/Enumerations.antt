@@ -1,5 +1,4 @@
 -- Lists of all numbers below a bound, all pairs from two lists, and all rows of numbers under given tops.
--- Assumes nothing.
 use Rattle.std.specs.Prelude.{◌≡◌, ℕ, ◌+◌, ◌*◌, ◌<◌, ◌≤◌, List, [], ◌∷◌, map, length, slice_index}
 use Rattle.std.specs.List.{range_with_len, flat_map}
 

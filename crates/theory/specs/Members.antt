@@ -1,4 +1,4 @@
--- Members of a list, and lists without repetition. Assumes nothing.
+-- Members of a list, and lists without repetition.
 use Rattle.std.specs.Prelude.{◌≡◌, ◌⊎◌, List, [], ◌∷◌}
 
 -- x stands in the list

@@ -1,6 +1,5 @@
 -- Runs of a transition system, the states that it reaches, and evidence that a test holds of each of them or fails
 -- at one. A system is its initial states and its steps.
--- Assumes nothing.
 use Rattle.std.specs.Prelude.{◌≡◌, ◌≤◌, Bool, true, false, ◌⊎◌, List, [], ◌∷◌, length}
 use Rattle.theory.specs.Members.{Member, Distinct}
 

@@ -1,5 +1,5 @@
 -- The theorems of this crate at states that are rows of numbers, over systems that are given by tests. They are proved
--- over any type of states; here they stand where a contract can cite them. Assumes nothing.
+-- over any type of states; here they stand where a contract can cite them.
 use Rattle.std.specs.Prelude.{◌≡◌, ℕ, ◌*◌, ◌<◌, ◌≤◌, Bool, true, List, map, length, filter}
 use Rattle.theory.specs.Enumerations.{below, pairs, ranges, Within, room}
 use Rattle.theory.specs.Members.{Member, Distinct, Included, Exactly}

@@ -1,5 +1,5 @@
-// The general theory of what a transition system reaches, and of counting by lists without repetition. Each function
-// does nothing and stands for a theorem, its contract, so that no check passes without the theorem's proof.
+//! The general theory of what a transition system reaches, and of counting by lists without repetition. Each function
+//! does nothing and stands for a theorem, its contract, so that no check passes without the theorem's proof.
 #![tactic(auto)]
 
 ghost use Rattle.theory.specs.Statements.{CertificatesAreSound, FalsifyingRunsAreSound, RepeatsCanBeCut, CountsAreUnique, EvidenceAlwaysExists, SimulationsKeepRuns, EnumerationsAreExact};

@@ -1,4 +1,4 @@
--- What a verdict tells of the drawing that was sealed. Assumes nothing.
+-- What a verdict tells of the drawing that was sealed.
 use Rattle.std.proofs.Common.{◌≡◌, ℕ, Bool, false, List, [], map, replicate, Some, None, Option, sym, refl, ap, ◌∙◌, subst}
 use Rattle.model.specs.Meanings.{OutlineFacts, Meaning}
 use Rattle.model.specs.declared.Fault.{Fault}

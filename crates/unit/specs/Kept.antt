@@ -1,4 +1,4 @@
--- What every unit keeps from the call that made it on. Assumes nothing.
+-- What every unit keeps from the call that made it on.
 use Rattle.std.specs.Prelude.{◌≡◌, ℕ, List, replicate, Some, None, Option}
 use Rattle.model.specs.Meanings.{OutlineFacts, Meaning}
 use Rattle.model.specs.declared.Fault.{Fault}

@@ -1,4 +1,4 @@
--- The unit that a core stands for, beside what its drawing means. Assumes nothing.
+-- The unit that a core stands for, beside what its drawing means.
 use Rattle.std.specs.Prelude.{ℕ, Bool, List, [], map, take, Some, None, Option}
 use Rattle.std.specs.Option.{is_none}
 use Rattle.expression.specs.Evaluation.{everything}

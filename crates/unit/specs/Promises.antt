@@ -1,4 +1,4 @@
--- What sealing promises. Assumes nothing.
+-- What sealing promises.
 use Rattle.std.specs.Prelude.{◌≡◌, ℕ, ◌↔◌, List, None, Option}
 use Rattle.model.specs.Meanings.{Meaning}
 use Rattle.model.specs.States.{InitialState}

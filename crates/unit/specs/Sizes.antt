@@ -1,4 +1,4 @@
--- How long the rows of a phase are. Assumes nothing.
+-- How long the rows of a phase are.
 use Rattle.std.specs.Prelude.{ℕ, Bool, true, ◌&&◌, List, length, Some, None, Option, ◌==◌}
 use Rattle.unit.specs.declared.phase.Phase.{Phase}
 use Rattle.unit.specs.declared.phase.Phase.TheVariants.{Idle, Standing, InRound}

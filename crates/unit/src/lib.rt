@@ -1,4 +1,4 @@
-// Units: a drawing that was sealed, and what is kept beside it from call to call.
+//! Units: a drawing that was sealed, and what is kept beside it from call to call.
 #![tactic(auto)]
 
 mod claims;

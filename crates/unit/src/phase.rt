@@ -1,8 +1,8 @@
-// Where a unit is between calls.
+//! Where a unit is between calls.
 use model::{Names, State};
 
-// Idle, with a state standing, or in the middle of a round: the state that stood before it, none in an initialization,
-// the values given and made so far, and which atoms have fired.
+/// Idle, with a state standing, or in the middle of a round: the state that stood before it, none in an initialization,
+/// the values given and made so far, and which atoms have fired.
 #[derive(Clone, Copy)]
 pub enum Phase {
     Idle,

@@ -1,4 +1,4 @@
-// Units.
+//! Units.
 ghost use Rattle.unit.specs.Kept.{OrderKept, WholeUnit, verdict_told};
 ghost use Rattle.unit.specs.Models.{model_of, claims_of, fresh};
 ghost use Rattle.unit.specs.Promises.{SealedRightly, ZeroWhenFit};
@@ -10,15 +10,14 @@ ghost use Rattle.std.specs.Option.{is_none};
 use crate::claims::{Claim, Claims, Mark};
 use crate::kept::Core;
 use crate::phase::Phase;
-use drawing::Drawing;
 use fitness::judge;
-use model::{Fault, Row};
+use model::{Drawing, Fault, Row};
 use order::order_of;
 
 // The number of the refusal of a unit that was joined with more than eight claims.
 const CROWDED: u8 = 37;
 
-// What is kept is the verdict on the drawing and the claims, and the unit can have come from the site.
+/// What is kept is the verdict on the drawing and the claims, and the unit can have come from the site.
 #[derive(Drop)]
 pub struct Unit<D: Drawing> {
     drawing: D,
@@ -66,7 +65,7 @@ fn made<D: Drawing>(drawing: &D, number: u32, rounds: u32, claims: Option<Claims
 }
 
 impl<D: Drawing> Unit<D> {
-    // Seals any drawing. An unfit one still makes a unit, which tells what is wrong.
+    /// Seals any drawing. An unfit one still makes a unit, which tells what is wrong.
     pub fn seal(drawing: D, number: u32) -> Unit<D>
         ensures kept { result.drawing ≡ drawing }
         ensures told { model_of (D.Drawing.meaning result.drawing) result.core ≡ seal (D.Drawing.meaning drawing) number }
@@ -76,14 +75,14 @@ impl<D: Drawing> Unit<D> {
         Unit { drawing, core }
     }
 
-    // What is wrong with the unit, if anything.
+    /// What is wrong with the unit, if anything.
     pub fn fault(&self) -> Option<Fault>
         ensures { result ≡ verdict_of (model_of (D.Drawing.meaning self.now.drawing) self.now.core) }
     {
         self.core.verdict
     }
 
-    // The same as number, layer and place, 0 when fit: three numbers, since that is what the call `verdict` tells (docs/calls.md).
+    /// The same as number, layer and place, 0 when fit: three numbers, since that is what the call `verdict` tells (docs/calls.md).
     pub fn verdict(&self) -> (u8, u8, u16)
         ensures told { result ≡ verdict_told (verdict_of (model_of (D.Drawing.meaning self.now.drawing) self.now.core)) }
         ensures zero { ZeroWhenFit (verdict_of (model_of (D.Drawing.meaning self.now.drawing) self.now.core)) }
@@ -91,7 +90,7 @@ impl<D: Drawing> Unit<D> {
         self.fault().map_or((0, 0, 0), |fault| (fault.number, fault.layer, fault.place))
     }
 
-    // The number that the unit was sealed with.
+    /// The number that the unit was sealed with.
     pub fn number(&self) -> u32
         ensures { result ≡ (model_of (D.Drawing.meaning self.now.drawing) self.now.core).number }
     {

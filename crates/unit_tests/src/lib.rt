@@ -1,4 +1,4 @@
-// Tests of sealing. The expected verdicts are worked out by hand from the rules.
+//! Tests of sealing. The expected verdicts are worked out by hand from the rules.
 #![tactic(auto)]
 
 #[cfg(test)]

@@ -1,9 +1,8 @@
-// The gate lists that the tests pile up and seal.
+//! The gate lists that the tests pile up and seal.
 ghost use Rattle.std.specs.Prelude.{◌<◌, ◌≤◌, ℕ};
 
-use drawing::Drawing;
 use gates::GateList;
-use model::Fault;
+use model::{Drawing, Fault};
 use samples::inverter;
 use unit::Unit;
 
@@ -22,12 +21,12 @@ fn inverters<F: Fn(u8) -> (u8, u8)>(count: u8, wires: F) -> GateList
     GateList::open(&bytes[..5 * count as usize])
 }
 
-// NOT gates in a ring over the names 1 to 14, and before them one that awaits the ring and is not on it.
+/// NOT gates in a ring over the names 1 to 14, and before them one that awaits the ring and is not on it.
 pub fn ring_with_a_tail() -> GateList {
     inverters(15, |gate| (gate % 14 + 1, gate))
 }
 
-// Seven NOT gates, each of which awaits the next, from the name first on; the last one awaits the barrier's name 31 at the end.
+/// Seven NOT gates, each of which awaits the next, from the name first on; the last one awaits the barrier's name 31 at the end.
 pub fn waiting(first: u8, end: bool) -> GateList {
     let first = first % 25;
     inverters(7, |gate| {
@@ -40,13 +39,13 @@ pub fn waiting(first: u8, end: bool) -> GateList {
     })
 }
 
-// Eight NOT gates of the wire 15 to every other name from first on.
+/// Eight NOT gates of the wire 15 to every other name from first on.
 pub fn scattered(first: u8) -> GateList {
     let first = first % 32;
     inverters(8, |gate| (15, first + 2 * gate))
 }
 
-// Is this what is wrong with the drawing, sealed as a unit of this number, and are its numbers, or zeros, the verdict?
+/// Is this what is wrong with the drawing, sealed as a unit of this number, and are its numbers, or zeros, the verdict?
 pub fn seals<D: Drawing + Drop>(drawing: D, fault: Option<Fault>) -> bool {
     let unit = Unit::seal(drawing, 7);
     let numbers = fault.map_or((0, 0, 0), |fault| (fault.number, fault.layer, fault.place));

@@ -1,4 +1,4 @@
-// Verdicts on gate lists and piles of them.
+//! Verdicts on gate lists and piles of them.
 use crate::parts::*;
 use model::Fault;
 use piles::{Hide, Join, Rename};

@@ -1,4 +1,4 @@
-// Verdicts on byte tables, each at its edge.
+//! Verdicts on byte tables, each at its edge.
 ghost use Rattle.std.specs.Prelude.{◌≤◌};
 
 use crate::parts::seals;

@@ -1,4 +1,4 @@
--- Certificates and runs are accepted exactly when they show what they have to. Assumes nothing.
+-- Certificates and runs are accepted exactly when they show what they have to.
 use Rattle.std.proofs.Common.{◌≡◌, ℕ, zero, suc, ◌+◌, ◌-◌, ◌<◌, Bool, true, false, not, ◌&&◌, List, [], ◌∷◌, length, Some, None, Option, sym, refl, ap, ◌∙◌, subst, inl, inr, ⊎_elim, not-suc-le-zero, add-one, arith}
 use Rattle.std.proofs.lemmas.Bool.{and_cases, both_ways, not-false, not_from_true}
 use Rattle.model.specs.Meanings.{Meaning}

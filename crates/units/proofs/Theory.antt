@@ -1,4 +1,4 @@
--- What evidence is worth. Assumes nothing.
+-- What evidence is worth.
 use Rattle.std.proofs.Common.{◌≡◌, ℕ, ◌≤◌, Bool, true, List, [], ◌∷◌, length, refl, subst, arith}
 use mathlib.Core.List.{List-discrete}
 use native.Mathlib.Decide.{ℕ_discrete}

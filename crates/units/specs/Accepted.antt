@@ -1,4 +1,4 @@
--- What evidence has to show, in the words of trajectories. Assumes nothing.
+-- What evidence has to show, in the words of trajectories.
 use Rattle.std.specs.Prelude.{◌≡◌, ℕ, Bool, true, false, List}
 use Rattle.model.specs.Meanings.{Meaning}
 use Rattle.model.specs.States.{is_state, InitialState, Successor, Trajectory, Ends}

@@ -1,4 +1,4 @@
--- Products and counts over the numbers below a bound, and tests over lists. Assumes nothing.
+-- Products and counts over the numbers below a bound, and tests over lists.
 use Rattle.std.specs.Prelude.{ℕ, zero, suc, ◌+◌, ◌*◌, Bool, true, false, ◌&&◌, ◌||◌, List, [], ◌∷◌, ◌==◌}
 
 -- the product of f k for each k below n

@@ -1,4 +1,4 @@
--- Certificates and runs: the conditions under which each is accepted, and the count. Assumes nothing.
+-- Certificates and runs: the conditions under which each is accepted, and the count.
 use Rattle.std.specs.Prelude.{ℕ, ◌+◌, ◌-◌, ◌*◌, ◌/◌, ◌%◌, Bool, true, false, not, ◌&&◌, ◌||◌, List, [], map, length, take, drop, Some, None, filter, Option, ◌==◌, nat_lt, slice_index, slice_index_or}
 use Rattle.model.specs.Meanings.{OutlineFacts, Meaning}
 use Rattle.model.specs.States.{value, is_state, takes, yields, nothing}

@@ -1,5 +1,5 @@
 -- Which units can come from the site: any that sealing makes, and what any call leaves of one, whatever the call
--- carried and whether it was refused or not. A round is opened with 32 values. Assumes nothing.
+-- carried and whether it was refused or not. A round is opened with 32 values.
 use Rattle.std.specs.Prelude.{◌≡◌, ℕ, List, length}
 use Rattle.model.specs.Meanings.{Meaning}
 use Rattle.units.specs.Units.{UnitModel, Slip, seal, rename_unit, hide_unit, join_units, claim, certify, refute, open_round, fire, end_round, stop}

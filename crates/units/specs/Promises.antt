@@ -1,5 +1,4 @@
 -- The promises. Each is named after what it says; a function's contract names it, and so the gate asks for its proof.
--- Assumes nothing.
 use Rattle.std.specs.Prelude.{◌≡◌, ℕ, ◌*◌, ◌≤◌, Bool, true, false, ◌↔◌, List, length, Some, None, ◌≢◌}
 use Rattle.std.specs.List.{slice_get}
 use Rattle.model.specs.Meanings.{Valuation, Meaning, Alike}

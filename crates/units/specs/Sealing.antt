@@ -1,4 +1,4 @@
--- What sealing judges of a drawing. Each check is made over all names or atoms before the next one. Assumes nothing.
+-- What sealing judges of a drawing. Each check is made over all names or atoms before the next one.
 use Rattle.std.specs.Prelude.{◌≡◌, ℕ, zero, suc, ◌+◌, ◌*◌, max, Bool, true, false, cond, not, ◌&&◌, ◌||◌, List, map, ℤ, pos, negsuc, Some, None, Option, ◌==◌, nat_le, nat_lt}
 use Rattle.model.specs.Meanings.{OutlineFacts, Meaning}
 use Rattle.model.specs.States.{value}

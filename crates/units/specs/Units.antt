@@ -1,4 +1,4 @@
--- Units: what each call answers and leaves. A refused call alters nothing but where this says so. Assumes nothing.
+-- Units: what each call answers and leaves. A refused call alters nothing but where this says so.
 use Rattle.std.specs.Prelude.{ℕ, zero, suc, ◌+◌, max, Bool, true, false, cond, not, ◌&&◌, ◌||◌, List, [], ◌∷◌, ◌++◌, map, length, replicate, ℤ, pos, negsuc, is_some, Some, None, Option, ◌==◌, nat_le, nat_lt, slice_index_or, slice_set}
 use Rattle.std.specs.List.{slice_get}
 use Rattle.composition.specs.Meanings.{renamed, hidden, joined}

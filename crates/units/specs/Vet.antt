@@ -1,4 +1,4 @@
--- The boot entry: a table, a claim and states, to one number. Assumes nothing.
+-- The boot entry: a table, a claim and states, to one number.
 use Rattle.std.specs.Prelude.{ℕ, List}
 use Rattle.language.specs.TableLaws.{table_meaning}
 use Rattle.units.specs.Units.{Answer, done, refused, seal, claim, certify}

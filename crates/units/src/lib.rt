@@ -1,5 +1,5 @@
-// What units are and what they promise: definitions and their theory. Each function here does nothing, and exists so that
-// its contract names a theorem: the gate then asks for the proof.
+//! What units are and what they promise: definitions and their theory. Each function here does nothing, and exists so that
+//! its contract names a theorem: the gate then asks for the proof.
 #![tactic(auto)]
 
 ghost use Rattle.units.specs.Promises.{CertificatesAreJudgedRightly, RunsAreJudgedRightly, AcceptedCertificatesHold, AcceptedRunsBreak, EvidenceExistsForEveryTest, TheCountIsUnique, ChoicesDependOnWhatTheySee};

@@ -1,4 +1,4 @@
--- What is picked of the numbers below n, against `below` and `mask_below`. Assumes nothing.
+-- What is picked of the numbers below n, against `below` and `mask_below`.
 use Rattle.std.proofs.Common.{◌≡◌, ℕ, ℤ, zero, suc, ◌+◌, ◌*◌, ◌%◌, ◌^◌, ◌<◌, ◌≤◌, Bool, true, false, cond, List, [], ◌∷◌, ◌++◌, Option, Some, None, option_map, filter, filter_map, map, sum_by, map-id, sym, refl, ap, ◌∙◌, mod-eq_of_lt, one-mul, pow-suc, arith}
 use Rattle.std.proofs.lemmas.List.{map-append}
 use Rattle.std.proofs.lemmas.List.Elements.{filter-append, filter_map-append}

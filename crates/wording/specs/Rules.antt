@@ -1,4 +1,4 @@
--- The numbers of the rules that a drawing or a unit can break. Assumes nothing.
+-- The numbers of the rules that a drawing or a unit can break.
 use Rattle.std.specs.Prelude.{◌≡◌, ℕ, ◌≢◌, Result, MatchResult}
 use Rattle.wording.specs.declared.rules.Rule.{Rule}
 use Rattle.wording.specs.declared.rules.Rule.TheVariants.{TableLength, TableEnd, Variables, Atoms, Expressions, BytesLeftOver, Renaming, Hiding, NameTaken, SameTop, AtomsOfTwo, Control, Order, Sight, OpenChoice, Range, Width, GateLists, Claims}

@@ -1,4 +1,4 @@
--- What is told of a drawing. Assumes nothing.
+-- What is told of a drawing.
 use Rattle.std.specs.Prelude.{◌≡◌, ℕ, ℤ, zero, suc, ◌+◌, ◌^◌, ◌<◌, Bool, cond, List, [], ◌∷◌, ◌++◌, map, filter, Some, None, vec_items, vec_len, codes, Option, Vec, slice_index_or}
 use Rattle.std.specs.List.{range_with_len}
 use Rattle.std.specs.declared.alloc.Global.{Global}

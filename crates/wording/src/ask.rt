@@ -1,9 +1,8 @@
-// Questions after one choice of an atom.
+//! Questions after one choice of an atom.
 ghost use Rattle.wording.specs.Told.{Replies};
 ghost use Rattle.std.specs.Prelude.{IfOk};
 
-use drawing::Drawing;
-use model::{Question, State};
+use model::{Drawing, Question, State};
 use notation::{Assignment, Listed};
 use std::alloc::{AllocError, Global};
 
@@ -13,7 +12,7 @@ pub struct Reply {
     pub given: Vec<Assignment<i16>>,
 }
 
-// Whether the choice is open, and what it gives to each name that its atom controls, names rising.
+/// Whether the choice is open, and what it gives to each name that its atom controls, names rising.
 pub fn reply_to<D: Drawing>(
     heap: Global,
     drawing: &D,
@@ -33,7 +32,7 @@ pub fn reply_to<D: Drawing>(
     Ok(Reply { open, given })
 }
 
-// What is answered to `ask`.
+/// What is answered to `ask`.
 pub fn ask_text<D: Drawing>(
     heap: Global,
     drawing: &D,

@@ -1,9 +1,8 @@
-// What is gathered from a drawing's answers.
+//! What is gathered from a drawing's answers.
 ghost use Rattle.wording.specs.Told.{below, variable_at, DescribesAtoms};
 ghost use Rattle.std.specs.Prelude.{◌≡◌, IfOk};
 
-use drawing::{Drawing, Outline};
-use model::{Kind, Names, Round};
+use model::{Drawing, Kind, Names, Outline, Round};
 use std::alloc::{AllocError, Global};
 
 #[derive(Clone, Copy)]
@@ -13,8 +12,8 @@ pub struct Variable {
     pub top: u8,
 }
 
-// An atom's sets, and how many choices it has in each kind of round. Any kind of drawing has these facts: `AtomLayout`
-// of `layout` has the places of the choices in the bytes of a table instead of counts.
+/// An atom's sets, and how many choices it has in each kind of round. Any kind of drawing has these facts: `AtomLayout`
+/// of `layout` has the places of the choices in the bytes of a table instead of counts.
 #[derive(Clone, Copy)]
 pub struct Atom {
     pub controls: Names,
@@ -24,7 +23,7 @@ pub struct Atom {
     pub update: u8,
 }
 
-// The drawing's variables, names rising.
+/// The drawing's variables, names rising.
 pub fn variables<D: Outline>(heap: Global, drawing: &D) -> Result<Vec<Variable>, AllocError>
     ensures { IfOk result (λ v. v.items ≡ below (variable_at (D.Outline.outline drawing.now)) 32) }
 {

@@ -1,4 +1,4 @@
-// What is told of drawings, in numbers for programs and in words for people.
+//! What is told of drawings, in numbers for programs and in words for people.
 #![tactic(auto)]
 
 mod ask;

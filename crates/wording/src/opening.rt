@@ -1,4 +1,4 @@
-// What is answered when a drawing is opened.
+//! What is answered when a drawing is opened.
 ghost use Rattle.wording.specs.Told.{numbers_or_zeros};
 ghost use Rattle.std.specs.Prelude.{Some};
 
@@ -7,7 +7,7 @@ use model::Fault;
 use std::alloc::{AllocError, Global};
 use std::fmt;
 
-// The number, layer and place of the fault, or zeros.
+/// The number, layer and place of the fault, or zeros.
 #[derive(Clone, Copy)]
 pub struct FaultNumbers(pub Option<Fault>);
 
@@ -22,7 +22,7 @@ impl fmt::Display for FaultNumbers {
     }
 }
 
-// What is answered when a drawing of this kind is opened under a name.
+/// What is answered when a drawing of this kind is opened under a name.
 pub fn opening_text(
     heap: Global,
     name: &str,

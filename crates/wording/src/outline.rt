@@ -1,4 +1,4 @@
-// What is answered to `outline`.
+//! What is answered to `outline`.
 ghost use Rattle.model.specs.Sets.{has};
 ghost use Rattle.wording.specs.Told.{mask_below};
 ghost use Rattle.std.specs.Prelude.{◌≡◌};
@@ -6,8 +6,7 @@ ghost use Rattle.std.specs.Prelude.{◌≡◌};
 use crate::facts::{Atom, Variable, atoms, variables};
 use crate::rules::Words;
 use any_drawing::AnyDrawing;
-use drawing::Drawing;
-use model::Names;
+use model::{Drawing, Names};
 use notation::{Listed, choice_lines};
 use std::alloc::{AllocError, Global};
 use std::fmt;
@@ -101,12 +100,12 @@ fn outline_with<D: Drawing, F: Fn(u8) -> Result<String, AllocError>>(
     Ok(text)
 }
 
-// What is told of a drawing of any kind: nothing of what its choices do.
+/// What is told of a drawing of any kind: nothing of what its choices do.
 pub fn outline_of<D: Drawing>(heap: Global, drawing: &D) -> Result<String, AllocError> {
     outline_with(heap, drawing, |_| Ok(String::new(heap)))
 }
 
-// What is told of a drawing, with a line for each choice that a table writes out.
+/// What is told of a drawing, with a line for each choice that a table writes out.
 pub fn outline_text(heap: Global, drawing: &AnyDrawing) -> Result<String, AllocError> {
     outline_with(heap, drawing, |atom| choice_lines(heap, drawing, atom))
 }

@@ -1,6 +1,6 @@
-// The rules that a drawing or a unit can break, and what is wrong with it then, for people.
-// They stand here all together, beside the enums of the crates that judge them: a fault tells a number, and words for people are
-// wanted for any number, whichever kind of drawing told it.
+//! The rules that a drawing or a unit can break, and what is wrong with it then, for people.
+//! They stand here all together, beside the enums of the crates that judge them: a fault tells a number, and words for people are
+//! wanted for any number, whichever kind of drawing told it.
 ghost use Rattle.wording.specs.Rules.{Numbers};
 
 use model::Fault;
@@ -30,7 +30,7 @@ pub enum Rule {
     Claims,
 }
 
-// A number that no rule has.
+/// A number that no rule has.
 #[derive(Clone, Copy, PartialEq, Eq, Debug)]
 pub struct UnknownRule(pub u8);
 
@@ -122,7 +122,7 @@ impl fmt::Display for Broken {
     }
 }
 
-// What is wrong, for people; in a pile also in which layer.
+/// What is wrong, for people; in a pile also in which layer.
 #[derive(Clone, Copy)]
 pub struct Words(pub Fault);
 

@@ -1,13 +1,12 @@
-// What is answered to `verdict`.
+//! What is answered to `verdict`.
 ghost use Rattle.model.specs.Sets.{has};
 ghost use Rattle.wording.specs.Told.{seen_values};
 ghost use Rattle.std.specs.Prelude.{◌≡◌, IfOk};
 
 use crate::opening::FaultNumbers;
 use crate::rules::{Rule, Words};
-use drawing::{Drawing, Outline};
 use fitness::{outside_at, stuck_at};
-use model::{Fault, Names, Round, value_of};
+use model::{Drawing, Fault, Names, Outline, Round, value_of};
 use notation::Listed;
 use sights::Sight;
 use std::alloc::{AllocError, Global};
@@ -97,7 +96,7 @@ fn where_words<D: Drawing>(heap: Global, drawing: &D, fault: Fault) -> Result<St
     }
 }
 
-// The verdict's numbers, and in words whether the unit is fit or why not.
+/// The verdict's numbers, and in words whether the unit is fit or why not.
 pub fn verdict_text<D: Drawing>(
     heap: Global,
     name: &str,

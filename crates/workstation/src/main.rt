@@ -1,4 +1,4 @@
-// Runs a script over tables, gate lists, piles and units.
+//! Runs a script over tables, gate lists, piles and units.
 #![tactic(auto)]
 
 use commands::Vocabulary;

@@ -1,11 +1,10 @@
-// What a tree of layers answers. What is wrong with it is known from the top layer on.
+//! What a tree of layers answers. What is wrong with it is known from the top layer on.
 ghost use Rattle.any_drawing.specs.Piles.{pile_meaning, pile_outline};
 ghost use Rattle.std.proofs.Common.{rules};
 
 use super::layer::Layer;
 use super::{AnyDrawing, Node};
-use drawing::{Drawing, Outline};
-use model::{Fault, Kind, Names, Round, State};
+use model::{Drawing, Fault, Kind, Names, Outline, Round, State};
 use piles::{joined_kind, told};
 
 impl Outline for AnyDrawing {

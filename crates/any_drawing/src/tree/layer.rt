@@ -1,4 +1,4 @@
-// The top layer of a tree, apart from the trees below it.
+//! The top layer of a tree, apart from the trees below it.
 ghost use Rattle.any_drawing.specs.Layers.{IsTop};
 
 use super::{AnyDrawing, Node};
@@ -7,7 +7,7 @@ use model::Fault;
 use piles::Exchange;
 use table::Table;
 
-// A pile with a fault tells nothing of its parts, and else a rename has two names to exchange.
+/// A pile with a fault tells nothing of its parts, and else a rename has two names to exchange.
 #[derive(Clone, Copy)]
 pub enum Layer<'a> {
     Faulty(Fault),

@@ -1,4 +1,4 @@
-// How an evaluator reads what stands at a place.
+//! How an evaluator reads what stands at a place.
 ghost use Rattle.std.specs.Prelude.{◌≡◌, length, MatchOption};
 ghost use Rattle.expression.specs.Evaluation.{Inner, number_here, numbers_here, truth_here, truths_here, byte_worth, name_worth, ended, all_number, all_truth};
 
@@ -117,14 +117,14 @@ impl Evaluator<'_> {
         (end == self.bytes.len()).then_some(worth)
     }
 
-    // What the bytes are worth as a number, or 0.
+    /// What the bytes are worth as a number, or 0.
     pub fn whole_number(&self) -> i16
         ensures { result ≡ all_number self.now }
     {
         self.to_the_end(self.number(0)).unwrap_or(0)
     }
 
-    // Whether the bytes hold as a truth, or false.
+    /// Whether the bytes hold as a truth, or false.
     pub fn whole_truth(&self) -> bool
         ensures { result ≡ all_truth self.now }
     {

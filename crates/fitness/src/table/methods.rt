@@ -3,8 +3,7 @@ ghost use Rattle.fitness.specs.Steps.{direct, Awaited};
 ghost use Rattle.units.specs.Sealing.{awaits_atom};
 
 use super::Table;
-use drawing::Outline;
-use model::{Names, any_below};
+use model::{Names, Outline, any_below};
 use std::array::from_fn;
 
 // Does the atom await a name that the other controls?
@@ -24,7 +23,7 @@ fn awaited<D: Outline>(drawing: &D, atom: u8) -> Names
 }
 
 impl Table {
-    // What the first 16 atoms of a drawing await. No drawing has more.
+    /// What the first 16 atoms of a drawing await. No drawing has more.
     pub fn of<D: Outline>(drawing: &D) -> Table
         ensures counted { result.atoms ≡ min (D.Outline.outline drawing.now).atoms 16 }
         ensures told { (a b : ℕ) → a < 16 → b < 16 → direct result a b ≡ awaits_atom (D.Outline.outline drawing.now) a b }
@@ -46,7 +45,7 @@ impl Table {
         self.atoms
     }
 
-    // Does the atom await the other one? Not where there is no such atom.
+    /// Does the atom await the other one? Not where there is no such atom.
     pub fn awaits(&self, atom: u8, other: u8) -> bool
         ensures { result ≡ direct self.now atom other }
     {

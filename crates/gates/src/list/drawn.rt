@@ -1,4 +1,4 @@
-// A gate list as a drawing.
+//! A gate list as a drawing.
 ghost use Rattle.gates.specs.Drawn.{outline_of, meaning_of};
 ghost use Rattle.gates.specs.Gates.{used};
 ghost use Rattle.gates.specs.Readings.{reading};
@@ -9,8 +9,7 @@ ghost use Rattle.std.specs.Prelude.{◌≡◌, ◌≤◌, length};
 
 use super::GateList;
 use crate::gate::{Field, Part};
-use drawing::{Drawing, Outline};
-use model::{Fault, Kind, Names, Round, State};
+use model::{Drawing, Fault, Kind, Names, Outline, Round, State};
 
 // What every fault of a gate list is told as.
 const GATE_FAULT: u8 = 18;

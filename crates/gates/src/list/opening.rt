@@ -1,4 +1,4 @@
-// Opening a gate list, record by record.
+//! Opening a gate list, record by record.
 ghost use Rattle.std.specs.Prelude.{◌≡◌, ◌+◌, ◌*◌, ◌<◌, ◌≤◌, ◌↔◌, length, IsTrue};
 ghost use Rattle.gates.specs.Behaviour.{GatesWork};
 ghost use Rattle.gates.specs.Drawn.{meaning_of};
@@ -93,7 +93,7 @@ fn read(bytes: &[u8]) -> Result<Row<Part, 16>, u16>
 }
 
 impl GateList {
-    // Opens any bytes. A fault still makes a list, which tells it and has no atoms.
+    /// Opens any bytes. A fault still makes a list, which tells it and has no atoms.
     pub fn open(bytes: &[u8]) -> GateList
         ensures opened { reading result ≡ opened bytes.now }
         ensures works { GatesWork bytes.now (meaning_of result) }

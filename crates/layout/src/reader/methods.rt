@@ -1,4 +1,4 @@
-// The bytes of a table one by one.
+//! The bytes of a table one by one.
 ghost use Rattle.language.specs.Tables.{between, byte_item, kind_of};
 ghost use Rattle.layout.specs.Reads.{Begins, Tells, Ended, any_byte, any_part, any_word};
 ghost use Rattle.layout.specs.Rules.{number_of};
@@ -14,7 +14,7 @@ use model::{Fault, Kind};
 const LIMIT: usize = 4_096;
 
 impl<'a> Reader<'a> {
-    // At the front of the bytes, if there are not too many.
+    /// At the front of the bytes, if there are not too many.
     pub fn new(bytes: &'a [u8]) -> Result<Reader<'a>, Fault>
         ensures { Begins bytes.now result }
     {
@@ -40,7 +40,7 @@ impl<'a> Reader<'a> {
         Ok(byte)
     }
 
-    // A byte that must lie in a range.
+    /// A byte that must lie in a range.
     pub fn byte_between(&mut self, rule: Rule, low: u8, high: u8) -> Result<u8, Fault>
         ensures { Tells (byte_item (number_of rule) (between low high)) self.old self.new result }
     {
@@ -53,7 +53,7 @@ impl<'a> Reader<'a> {
         }
     }
 
-    // A variable's kind.
+    /// A variable's kind.
     pub fn kind(&mut self) -> Result<Kind, Fault>
         ensures { Tells (byte_item 3 kind_of) self.old self.new result }
     {
@@ -61,7 +61,7 @@ impl<'a> Reader<'a> {
         Kind::try_from(self.byte()?).map_err(|_| Rule::Variable.broken_at(place))
     }
 
-    // The number that four bytes make, the highest first.
+    /// The number that four bytes make, the highest first.
     pub fn word(&mut self) -> Result<u32, Fault>
         ensures { Tells any_word self.old self.new result }
     {
@@ -69,7 +69,7 @@ impl<'a> Reader<'a> {
         Ok(u32::from_be_bytes(bytes))
     }
 
-    // So many bytes.
+    /// So many bytes.
     pub fn part(&mut self, size: u8) -> Result<&'a [u8], Fault>
         ensures { Tells (any_part size) self.old self.new (result_map_both (λ part. part.now) (λ fault. fault) result) }
     {
@@ -82,14 +82,14 @@ impl<'a> Reader<'a> {
         Ok(&self.bytes[start..end])
     }
 
-    // Up to where the bytes have been read.
+    /// Up to where the bytes have been read.
     pub fn place(&self) -> u16
         ensures { result ≡ self.now.place }
     {
         self.place as u16
     }
 
-    // Nothing may be left over.
+    /// Nothing may be left over.
     pub fn end(&self) -> Result<(), Fault>
         ensures { result ≡ Ended self.now }
     {

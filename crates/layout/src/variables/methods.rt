@@ -1,4 +1,4 @@
-// The variables of a table are read, names rising.
+//! The variables of a table are read, names rising.
 ghost use Rattle.language.specs.Tables.{read_variable, read_variables};
 ghost use Rattle.layout.specs.Reads.{Reads};
 ghost use Rattle.layout.specs.Variables.{at, IsVariable, VariablesLaid};
@@ -10,7 +10,7 @@ use crate::rules::Rule;
 use model::Fault;
 
 impl Variables {
-    // The variable of this name. A number above 31 is no name.
+    /// The variable of this name. A number above 31 is no name.
     pub fn at(&self, name: u8) -> Option<Variable>
         ensures { result ≡ at self.now name }
     {
@@ -30,7 +30,7 @@ impl Reader<'_> {
         Ok((name, Variable { kind, top }))
     }
 
-    // So many variables.
+    /// So many variables.
     pub fn variables(&mut self, count: u8) -> Result<Variables, Fault>
         ensures { Reads VariablesLaid (read_variables 0 count) self.old self.new result }
     {

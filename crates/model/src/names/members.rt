@@ -1,11 +1,11 @@
-// The names of a set, one after another.
+//! The names of a set, one after another.
 ghost use Rattle.model.specs.Sets.{names_left};
 ghost use Rattle.std.specs.Iterator.{YieldsFirst, item_count};
 
 use super::Names;
 use std::ops::Range;
 
-// The names of a set that are still to come: those in `left`, rising.
+/// The names of a set that are still to come: those in `left`, rising.
 #[derive(Drop)]
 pub struct Members<'a> {
     pub(super) names: &'a Names,

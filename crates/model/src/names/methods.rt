@@ -12,7 +12,7 @@ impl Names {
         Names { marks: [false; 32] }
     }
 
-    // The set with one name more. A number above 31 is no name, and adds nothing.
+    /// The set with one name more. A number above 31 is no name, and adds nothing.
     pub fn with(self, name: u8) -> Names
         ensures { (n : ℕ) → has result n ≡ (has self n || is_name name n) }
     {
@@ -23,7 +23,7 @@ impl Names {
         Names { marks }
     }
 
-    // The names at which the test passes.
+    /// The names at which the test passes.
     pub fn gather<F: Fn(u8) -> bool>(test: F) -> Names
         requires { (k : ℕ) → k < 32 → F.pre test k }
         ensures { (p : ℕ → Bool) → Answers (F.post test) p 32 → (n : ℕ) → has result n ≡ (nat_lt n 32 && p n) }
@@ -44,7 +44,7 @@ impl Names {
         name < 32 && self.marks[name as usize]
     }
 
-    // The names of the set, rising.
+    /// The names of the set, rising.
     pub fn iter(&self) -> Members<'_>
         ensures { names_left result ≡ members self.now }
     {

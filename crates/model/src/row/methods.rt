@@ -4,7 +4,7 @@ ghost use Rattle.model.specs.Rows.{listed, Filled, Pushed};
 use super::{Full, Row};
 
 impl<T: Copy, const N: usize> Row<T, N> {
-    // No items. The blank fills the places that none takes.
+    /// No items. The blank fills the places that none takes.
     pub fn empty(blank: T) -> Row<T, N>
         ensures { listed result ≡ [] }
     {
@@ -14,7 +14,7 @@ impl<T: Copy, const N: usize> Row<T, N> {
         }
     }
 
-    // These items, if there is room for them. The blank fills the places that none takes.
+    /// These items, if there is room for them. The blank fills the places that none takes.
     pub fn from_slice(items: &[T], blank: T) -> Result<Row<T, N>, Full>
         ensures { Filled items.now result }
     {
@@ -29,7 +29,7 @@ impl<T: Copy, const N: usize> Row<T, N> {
         })
     }
 
-    // Adds an item at the end, if there is room.
+    /// Adds an item at the end, if there is room.
     pub fn push(&mut self, item: T) -> Result<(), Full>
         ensures { Pushed N (listed self.old) item (listed self.new) result }
     {

@@ -1,4 +1,4 @@
-// What a name stands for: looked up, put and taken.
+//! What a name stands for: looked up, put and taken.
 #![tactic(auto, using(std::proofs::lemmas::Map::Text::text_keys))]
 
 ghost use Rattle.commands.specs.declared.mistake.Mistake.TheVariants.{UnknownName, NoMemory};
@@ -36,7 +36,7 @@ impl Things {
         self.map.get(name).ok_or(Mistake::UnknownName)
     }
 
-    // Lets the name stand for the thing, and no longer for what it stood for.
+    /// Lets the name stand for the thing, and no longer for what it stood for.
     pub fn put(&mut self, name: String, thing: Made) -> Result<(), Mistake>
         ensures { MatchResult result (λ _. Puts self.old self.new (string_bytes name) thing) (λ e. (e ≡ NoMemory) × Same self.old self.new) }
     {
@@ -44,7 +44,7 @@ impl Things {
         Ok(())
     }
 
-    // The drawing that the name stands for.
+    /// The drawing that the name stands for.
     pub fn drawing(&self, name: &str) -> Result<&AnyDrawing, Mistake>
         ensures { IfOk result (λ d. Stands self.now name.now d.now) }
     {
@@ -54,7 +54,7 @@ impl Things {
         }
     }
 
-    // The unit that the name stands for.
+    /// The unit that the name stands for.
     pub fn unit(&self, name: &str) -> Result<&Sealed, Mistake>
         ensures { IfOk result (λ u. StandsSealed self.now name.now u.now) }
     {
@@ -76,7 +76,7 @@ impl Things {
         }
     }
 
-    // The drawing that the name stands for, which is used up.
+    /// The drawing that the name stands for, which is used up.
     pub fn take(&mut self, name: &str) -> Result<AnyDrawing, Mistake>
         ensures { MatchResult result (λ d. Stands self.old name.now d × Takes self.old self.new name.now) (λ _. Same self.old self.new) }
     {
@@ -84,7 +84,7 @@ impl Things {
         Ok(self.remove(name))
     }
 
-    // The drawings that the two names stand for, both used up. A drawing cannot be used twice.
+    /// The drawings that the two names stand for, both used up. A drawing cannot be used twice.
     pub fn take_two(&mut self, left: &str, right: &str) -> Result<(AnyDrawing, AnyDrawing), Mistake>
         ensures { MatchResult result (λ d. TakenTwo self.old self.new left.now right.now d.0 d.1) (λ _. Same self.old self.new) }
     {

@@ -1,4 +1,4 @@
-// What commands do to what the names of a script stand for.
+//! What commands do to what the names of a script stand for.
 ghost use Rattle.commands.specs.declared.command.Command.TheVariants.{Join, Rename, Hide, Seal};
 ghost use Rattle.commands.specs.declared.mistake.Mistake.TheVariants.{NoMemory};
 ghost use Rattle.sessions.specs.Sessions.{Obeys, Spares};
@@ -29,7 +29,7 @@ fn question_of<F: FileBytes>(
 }
 
 impl Things {
-    // Does what the command asks for, and tells what to answer.
+    /// Does what the command asks for, and tells what to answer.
     pub fn obey<F: FileBytes>(&mut self, files: &F, command: Command) -> Result<String, Mistake>
         ensures { MatchResult result (λ _. Obeys command self.old self.new) (λ e. Spares command self.old self.new e) }
     {

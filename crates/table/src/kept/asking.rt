@@ -1,4 +1,4 @@
-// Where the parts of an opened table are found.
+//! Where the parts of an opened table are found.
 ghost use Rattle.std.specs.Prelude.{◌≡◌, ◌≤◌, length};
 ghost use Rattle.std.specs.Option.{option_copied};
 ghost use Rattle.std.specs.Result.{result_ok};
@@ -7,9 +7,8 @@ ghost use Rattle.table.specs.Kept.{contents, variable_of, atom_of, choice_of, gu
 
 use super::Table;
 use crate::items::Item;
-use drawing::Outline;
 use layout::{AtomLayout, Layout, Places, Variable};
-use model::{Round, count_below};
+use model::{Outline, Round, count_below};
 
 pub fn in_round(atom: &AtomLayout, round: Round) -> &Places
     ensures { result.now ≡ layout_in round atom.now }
@@ -54,7 +53,7 @@ impl Table {
         self.bytes.as_ref().map_or(&[], |bytes| bytes.as_slice())
     }
 
-    // The written form of the choice's guard, empty if there is no such choice.
+    /// The written form of the choice's guard, empty if there is no such choice.
     pub fn guard(&self, round: Round, atom: u8, choice: u8) -> &[u8]
         ensures { result.now ≡ guard_form (choice_of self.now round atom choice) }
     {
@@ -63,7 +62,7 @@ impl Table {
             .unwrap_or_default()
     }
 
-    // The written form of what the choice gives to a name that its atom controls, empty if it gives it nothing.
+    /// The written form of what the choice gives to a name that its atom controls, empty if it gives it nothing.
     pub fn number(&self, round: Round, atom: u8, choice: u8, name: u8) -> &[u8]
         ensures { result.now ≡ number_bytes_of self.now round atom choice name }
     {

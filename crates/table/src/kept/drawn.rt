@@ -1,12 +1,11 @@
-// A table as a drawing.
+//! A table as a drawing.
 ghost use Rattle.table.specs.Kept.{outline_of, meaning_of};
 ghost use Rattle.std.specs.Prelude.{refl};
 
 use super::Table;
 use super::asking::in_round;
-use drawing::{Drawing, Outline};
 use expression::{number_value, truth_value};
-use model::{Fault, Kind, Names, Round, State};
+use model::{Drawing, Fault, Kind, Names, Outline, Round, State};
 
 impl Outline for Table {
     ghost outline = { outline_of };

@@ -1,4 +1,4 @@
-// Opening a table.
+//! Opening a table.
 ghost use Rattle.language.specs.Tables.{table_opened};
 ghost use Rattle.std.specs.Prelude.{◌≡◌, ◌≤◌, length};
 ghost use Rattle.table.specs.Contents.{Copied};
@@ -17,7 +17,7 @@ fn copied(bytes: &[u8]) -> Result<Row<u8, 4096>, usize>
 }
 
 impl Table {
-    // Opens any bytes. A fault still makes a table, which tells it and has no variables and no atoms.
+    /// Opens any bytes. A fault still makes a table, which tells it and has no variables and no atoms.
     pub fn open(bytes: &[u8]) -> Table
         ensures opened { table_opened (contents result) ≡ table_opened bytes.now }
         ensures kept { length bytes.now ≤ 4096 → contents result ≡ bytes.now }

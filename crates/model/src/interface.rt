@@ -1,29 +1,27 @@
-// The interface of drawings. Every question has an answer, for all arguments: what is not there is answered
-// absent, 0, empty or closed.
-#![tactic(auto)]
-
+//! The interface of drawings. Every question has an answer, for all arguments: what is not there is answered
+//! absent, 0, empty or closed.
 ghost use Rattle.std.specs.Prelude.{ℕ, ◌≡◌};
 ghost use Rattle.model.specs.Meanings.{OutlineFacts, Meaning};
 ghost use Rattle.model.specs.Sets.{has};
 ghost use Rattle.model.specs.States.{value};
 
-use model::{Fault, Kind, Names, Round, State};
+use crate::{Fault, Kind, Names, Round, State};
 
-// What a drawing tells before its choices are looked at. Whether two drawings join is judged from this alone.
+/// What a drawing tells before its choices are looked at. Whether two drawings join is judged from this alone.
 pub trait Outline {
     ghost outline: { Self → OutlineFacts };
 
     fn fault(&self) -> Option<Fault>
         ensures { result ≡ (outline self.now).fault };
 
-    // The number of layers that the drawing is piled of, 1 to 255; more are told as 255.
+    /// The number of layers that the drawing is piled of, 1 to 255; more are told as 255.
     fn layers(&self) -> u8
         ensures { result ≡ (outline self.now).layers };
 
     fn kind(&self, name: u8) -> Option<Kind>
         ensures { result ≡ (outline self.now).kind name };
 
-    // The variable's largest value.
+    /// The variable's largest value.
     fn top(&self, name: u8) -> u8
         ensures { result ≡ (outline self.now).top name };
 
@@ -40,21 +38,21 @@ pub trait Outline {
         ensures { (n : ℕ) → has result n ≡ (outline self.now).awaits atom n };
 }
 
-// The full drawing: what each atom may do in a round. Its meaning holds the outline's facts: the law says that the two agree. A
-// question takes the round, the atom, the choice and the values one by one: each asks for some of these alone, and each layer of
-// a pile asks below at another atom, name or values, so that a struct of them would be made anew there.
+/// The full drawing: what each atom may do in a round. Its meaning holds the outline's facts: the law says that the two agree. A
+/// question takes the round, the atom, the choice and the values one by one: each asks for some of these alone, and each layer of
+/// a pile asks below at another atom, name or values, so that a struct of them would be made anew there.
 pub trait Drawing: Outline {
     ghost meaning: { Self → Meaning };
 
-    // How many choices the atom has in such a round.
+    /// How many choices the atom has in such a round.
     fn choices(&self, round: Round, atom: u8) -> u8
         ensures { result ≡ (meaning self.now).acts.choices round atom };
 
-    // Is the choice open at these old and new values?
+    /// Is the choice open at these old and new values?
     fn is_open(&self, round: Round, atom: u8, choice: u8, old: State, new: State) -> bool
         ensures { result ≡ (meaning self.now).acts.opens round atom choice (value old) (value new) };
 
-    // What the choice gives to a name that its atom controls.
+    /// What the choice gives to a name that its atom controls.
     fn gives(&self, round: Round, atom: u8, choice: u8, name: u8, old: State, new: State) -> i16
         ensures { result ≡ (meaning self.now).acts.gives round atom choice name (value old) (value new) };
 
