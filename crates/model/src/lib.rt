@@ -8,12 +8,14 @@ ghost use Rattle.std.specs.Prelude.{◌≡◌};
 mod below;
 mod exchange;
 mod faults;
+mod interface;
 mod kinds;
 mod names;
 mod row;
 
 pub use below::{all_below, any_below, count_below, lowest_below};
 pub use exchange::exchanged;
+pub use interface::{Drawing, Outline};
 pub use kinds::{UnknownKind, UnknownRound};
 pub use names::{Members, Names};
 pub use row::{Full, Row};
