@@ -6,7 +6,7 @@ use Rattle.model.specs.Meanings.{OutlineFacts}
 use Rattle.model.specs.Tests.{lowest}
 use Rattle.model.specs.declared.Fault.{Fault}
 use Rattle.composition.proofs.Tests.{lowest_none_from, lowest_is}
-use Rattle.composition.specs.FaultLaws.{Renames, Hides}
+use Rattle.composition.specs.Allowed.{Renames, Hides}
 use Rattle.composition.specs.Faults.{deeper, raised, is_interface, rename_fault, hide_fault, clashes, differs, join_fault, fault_of_renamed, fault_of_hidden, fault_of_joined}
 use Rattle.model.specs.Faults.{own}
 use Rattle.composition.specs.Outlines.{sound_or}

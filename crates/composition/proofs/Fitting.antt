@@ -5,9 +5,10 @@ use Rattle.model.specs.Meanings.{OutlineFacts, Meaning}
 use Rattle.composition.proofs.Clashes.{clash_flip, clash_regroup, clash_none}
 use Rattle.composition.proofs.Faults.{no_fault}
 use Rattle.composition.proofs.Tests.{lowest_absent}
-use Rattle.composition.specs.FaultLaws.{none_from, Fits, Joins}
+use Rattle.composition.specs.Allowed.{Fits}
+use Rattle.composition.specs.laws.Faults.{none_from, Joins}
 use Rattle.composition.specs.Faults.{clash, clashes, differs, fault_of_joined}
-use Rattle.composition.specs.OutlineLaws.{joined_some_left, joined_some_right, joined_some_rest}
+use Rattle.composition.specs.laws.Outlines.{joined_some_left, joined_some_right, joined_some_rest}
 use Rattle.composition.specs.Outlines.{joined_kind, joined_tables}
 
 pub fits : (l r : Meaning) → Joins l.outline r.outline → Fits l.outline r.outline

@@ -16,10 +16,11 @@ use Rattle.composition.proofs.Seen.{leads}
 use Rattle.composition.proofs.States.{is_state_from, state_value, state_length, state_zero, yields_state}
 use Rattle.composition.proofs.Trajectories.{trajectory_along, reachable_along}
 use Rattle.composition.proofs.Views.{projected_at}
-use Rattle.composition.specs.FaultLaws.{Fits, joins}
+use Rattle.composition.specs.Allowed.{Fits}
+use Rattle.composition.specs.laws.Faults.{joins}
 use Rattle.composition.specs.Faults.{clash, is_private, is_interface, fault_of_joined}
 use Rattle.composition.specs.Meanings.{joined}
-use Rattle.composition.specs.OutlineLaws.{by_atom_left, by_atom_right}
+use Rattle.composition.specs.laws.Outlines.{by_atom_left, by_atom_right}
 use Rattle.composition.specs.Outlines.{joined_kind, by_atom}
 use Rattle.composition.specs.Statements.{ContentsOfJoins, Projects}
 use Rattle.composition.specs.Views.{projected}

@@ -7,8 +7,9 @@ use Rattle.model.specs.declared.Round.{Round}
 use Rattle.composition.proofs.Faults.{sound_is}
 use Rattle.composition.specs.Acts.{seen_below}
 use Rattle.model.specs.Exchange.{exchange}
-use Rattle.composition.specs.ExchangeLaws.{exchange_both}
-use Rattle.composition.specs.FaultLaws.{Renames, renames}
+use Rattle.composition.specs.laws.Exchange.{exchange_both}
+use Rattle.composition.specs.Allowed.{Renames}
+use Rattle.composition.specs.laws.Faults.{renames}
 use Rattle.composition.specs.Faults.{fault_of_renamed}
 use Rattle.composition.specs.Outlines.{sound_or}
 use Rattle.composition.specs.Statements.{put, Puts}

@@ -18,8 +18,9 @@ use Rattle.composition.proofs.Views.{length_as_state, exchanged_at, exchanged_tw
 use Rattle.composition.specs.Acts.{seen_below}
 use Rattle.composition.specs.Same.{SameAnswers}
 use Rattle.model.specs.Exchange.{exchange}
-use Rattle.composition.specs.ExchangeLaws.{exchange_old, exchange_new, exchange_twice, exchange_flip, exchange_within}
-use Rattle.composition.specs.FaultLaws.{Renames, renames}
+use Rattle.composition.specs.laws.Exchange.{exchange_old, exchange_new, exchange_twice, exchange_flip, exchange_within}
+use Rattle.composition.specs.Allowed.{Renames}
+use Rattle.composition.specs.laws.Faults.{renames}
 use Rattle.composition.specs.Faults.{fault_of_renamed}
 use Rattle.composition.specs.Meanings.{renamed}
 use Rattle.composition.specs.Outlines.{sound_or}

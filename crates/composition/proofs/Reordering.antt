@@ -11,10 +11,11 @@ use Rattle.composition.proofs.Joining.{left_part, right_part, yields_joined}
 use Rattle.composition.proofs.Parts.{state_same, yields_same}
 use Rattle.composition.specs.Acts.{acts_with, joined_choices}
 use Rattle.composition.specs.Same.{SameAtom, SameAnswers}
-use Rattle.composition.specs.FaultLaws.{none_from, Fits, Joins, joins}
+use Rattle.composition.specs.Allowed.{Fits}
+use Rattle.composition.specs.laws.Faults.{none_from, Joins, joins}
 use Rattle.composition.specs.Faults.{fault_of_joined}
 use Rattle.composition.specs.Meanings.{joined}
-use Rattle.composition.specs.OutlineLaws.{by_atom_left, by_atom_right}
+use Rattle.composition.specs.laws.Outlines.{by_atom_left, by_atom_right}
 use Rattle.composition.specs.Outlines.{sound_or, by_atom, outline_with, joined_kind, joined_tables, joined_outline}
 use Rattle.composition.specs.Statements.{Swaps, Regroups}
 

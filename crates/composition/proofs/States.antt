@@ -8,7 +8,7 @@ use Rattle.model.specs.Tests.{every, some}
 use Rattle.model.specs.declared.Round.{Round}
 use Rattle.model.specs.declared.Round.TheVariants.{Initial, Update}
 use Rattle.model.proofs.Bounded.{every_decides}
-use Rattle.composition.specs.FaultLaws.{none_from}
+use Rattle.composition.specs.laws.Faults.{none_from}
 
 module _ (o : OutlineFacts) (s : List ℕ) where
   pub is_state_from : length s ≡ 32 → ((n : ℕ) → n < 32 → value s n ≤ o.top n) → is_state o s ≡ true

@@ -4,7 +4,7 @@ use Rattle.std.proofs.lemmas.Bool.{cases_Bool, cases_eq, cond-true, cond-false}
 use Rattle.std.specs.Option.{option_or}
 use Rattle.model.specs.Tests.{every, some, lowest}
 use Rattle.model.proofs.Bounded.{lowest_at}
-use Rattle.composition.specs.FaultLaws.{some≢none, or_none}
+use Rattle.composition.specs.laws.Faults.{some≢none, or_none}
 use Rattle.composition.specs.Statements.{Lowest}
 
 pub every_same : (p q : ℕ → Bool) (n : ℕ) → ((i : ℕ) → i < n → p i ≡ q i) → every p n ≡ every q n

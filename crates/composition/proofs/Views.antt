@@ -8,7 +8,7 @@ use Rattle.model.specs.Meanings.{Valuation, OutlineFacts}
 use Rattle.model.specs.States.{value, nothing}
 use Rattle.composition.specs.Acts.{seen_below}
 use Rattle.model.specs.Exchange.{exchange}
-use Rattle.composition.specs.ExchangeLaws.{exchange_both, exchange_twice, exchange_within}
+use Rattle.composition.specs.laws.Exchange.{exchange_both, exchange_twice, exchange_within}
 use Rattle.composition.specs.Views.{as_state, projected, exchanged}
 
 pub length_as_state : (v : Valuation) → length (as_state v) ≡ 32

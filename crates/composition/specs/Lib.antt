@@ -1,11 +1,9 @@
 pub mod Acts
-pub mod ChoiceLaws
-pub mod ExchangeLaws
-pub mod FaultLaws
+pub mod Allowed
 pub mod Faults
 pub mod Meanings
-pub mod OutlineLaws
 pub mod Outlines
 pub mod Same
 pub mod Statements
 pub mod Views
+pub mod laws

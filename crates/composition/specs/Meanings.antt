@@ -2,8 +2,8 @@
 use Rattle.std.specs.Prelude.{ℕ}
 use Rattle.model.specs.Meanings.{Meaning}
 use Rattle.composition.specs.Acts.{renamed_acts, hidden_acts, joined_acts}
-use Rattle.composition.specs.ChoiceLaws.{renamed_choice_laws, hidden_choice_laws, joined_choice_laws}
-use Rattle.composition.specs.OutlineLaws.{renamed_outline_laws, hidden_outline_laws, joined_outline_laws}
+use Rattle.composition.specs.laws.Choices.{renamed_choice_laws, hidden_choice_laws, joined_choice_laws}
+use Rattle.composition.specs.laws.Outlines.{renamed_outline_laws, hidden_outline_laws, joined_outline_laws}
 use Rattle.composition.specs.Outlines.{renamed_outline, hidden_outline, joined_outline}
 
 abbrev pub renamed : Meaning → ℕ → ℕ → Meaning

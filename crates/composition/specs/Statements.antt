@@ -4,7 +4,7 @@ use Rattle.model.specs.Meanings.{Valuation, OutlineFacts, Meaning}
 use Rattle.model.specs.States.{value, is_state, yields, Trajectory, Reachable}
 use Rattle.model.specs.declared.Fault.{Fault}
 use Rattle.model.specs.declared.Round.{Round}
-use Rattle.composition.specs.FaultLaws.{Renames, Hides, Fits}
+use Rattle.composition.specs.Allowed.{Renames, Hides, Fits}
 use Rattle.composition.specs.Faults.{is_private, is_interface, deeper, clashes, differs, fault_of_renamed, fault_of_hidden, fault_of_joined}
 use Rattle.model.specs.Faults.{own}
 use Rattle.composition.specs.Meanings.{renamed, hidden, joined}

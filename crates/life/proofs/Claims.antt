@@ -3,10 +3,10 @@ use Rattle.std.proofs.Common.{◌≡◌, ℕ, zero, suc, ◌<◌, Bool, true, fa
 use Rattle.std.proofs.lemmas.Bool.{and_from, and_parts, both_ways, le-leb}
 use Rattle.std.specs.List.{AllByRecursion as All, slice_get}
 use Rattle.model.specs.Exchange.{exchange}
-use Rattle.composition.specs.FaultLaws.{hides}
+use Rattle.composition.specs.laws.Faults.{hides}
 use Rattle.composition.specs.Faults.{fault_of_renamed, fault_of_hidden, fault_of_joined}
 use Rattle.composition.specs.Meanings.{renamed, hidden, joined}
-use Rattle.composition.specs.OutlineLaws.{hidden_there, joined_some_left, joined_some_right}
+use Rattle.composition.specs.laws.Outlines.{hidden_there, joined_some_left, joined_some_right}
 use Rattle.composition.specs.Outlines.{hidden_tables, joined_kind}
 use Rattle.composition.specs.Views.{projected, exchanged}
 use Rattle.composition.proofs.Faults.{sound_is}

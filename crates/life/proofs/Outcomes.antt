@@ -2,7 +2,7 @@
 use Rattle.std.proofs.Common.{◌≡◌, ℕ, zero, suc, ◌+◌, ◌<◌, ◌≤◌, Bool, true, false, cond, not, ◌&&◌, ◌||◌, eqb, ltb, ◌⊎◌, List, [], ◌∷◌, map, length, set, replicate, is_some, Some, None, Option, sym, refl, ap, ◌∙◌, subst, inl, inr, ⊎_elim, le_refl, arith}
 use Rattle.std.proofs.lemmas.List.{length-set, length-replicate, ext_get_or}
 use Rattle.std.proofs.lemmas.Bool.{and_from, or_from, both_ways, cases_Bool, cases_eq, cond-true, cond-false, cond_both, eqb-true, eq-eqb, ne_eqb, lt-ltb, le-ltb, not-false, not-true, not_from_true}
-use Rattle.composition.specs.FaultLaws.{none_from}
+use Rattle.composition.specs.laws.Faults.{none_from}
 use Rattle.model.specs.Meanings.{Valuation, OutlineFacts, Alike, Meaning}
 use Rattle.model.specs.States.{value, yields}
 use Rattle.model.specs.Tests.{lowest, count}

@@ -3,7 +3,7 @@ use Rattle.std.proofs.Common.{◌≡◌, ℕ, ◌<◌, ◌≤◌, false, ◌&&�
 use Rattle.std.proofs.lemmas.List.{get_or_past}
 use Rattle.std.proofs.lemmas.Bool.{lt-ltb, le-ltb, cases_lt}
 use Rattle.model.specs.Exchange.{exchange}
-use Rattle.composition.specs.ExchangeLaws.{exchange_other}
+use Rattle.composition.specs.laws.Exchange.{exchange_other}
 use Rattle.model.specs.Sets.{has}
 use Rattle.model.specs.declared.names.Names.{Names}
 

@@ -5,10 +5,11 @@ use native.Mathlib.Bridge.{le_prop}
 use Rattle.std.proofs.lemmas.Bool.{true≢false, false≢true, both_ways, cases_lt, cases_Bool, cond_both, cond-true, cond-false, eq-eqb, ne_eqb, eqb-true, eqb-false, lt-ltb, le-ltb, and_from, and_parts, or_left, or_right, or_cases, not-true, not_from_false}
 use Rattle.composition.specs.Acts.{acts_with, renamed_choices, joined_choices}
 use Rattle.model.specs.Exchange.{exchange}
-use Rattle.composition.specs.ExchangeLaws.{exchange_twice}
-use Rattle.composition.specs.FaultLaws.{Fits, hides, joins}
+use Rattle.composition.specs.laws.Exchange.{exchange_twice}
+use Rattle.composition.specs.Allowed.{Fits}
+use Rattle.composition.specs.laws.Faults.{hides, joins}
 use Rattle.composition.specs.Faults.{is_private, is_interface, clash}
-use Rattle.composition.specs.OutlineLaws.{joined_some_rest}
+use Rattle.composition.specs.laws.Outlines.{joined_some_rest}
 use Rattle.composition.specs.Outlines.{outline_with, renamed_tables, hidden_tables, joined_kind, joined_tables}
 use Rattle.composition.proofs.Fitting.{fits, top_left, top_right}
 use Rattle.model.specs.Meanings.{Meaning}

@@ -5,7 +5,7 @@ use Rattle.composition.proofs.Joining.{yields_joined}
 use Rattle.composition.proofs.Renaming.{yields_renamed, renamed_back}
 use Rattle.composition.proofs.Reordering.{swaps, regroups}
 use Rattle.composition.proofs.Views.{projected_nothing, exchanged_nothing}
-use Rattle.composition.specs.FaultLaws.{renames}
+use Rattle.composition.specs.laws.Faults.{renames}
 use Rattle.composition.specs.Faults.{fault_of_joined}
 use Rattle.composition.specs.Views.{projected, exchanged}
 use Rattle.model.specs.Meanings.{Meaning}

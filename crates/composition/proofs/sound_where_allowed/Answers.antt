@@ -1,4 +1,4 @@
-use Rattle.composition.specs.FaultLaws.{renames, hides, joins}
+use Rattle.composition.specs.laws.Faults.{renames, hides, joins}
 use Rattle.composition.proofs.Faults.{rename_sound, hide_sound}
 use Rattle.composition.proofs.Fitting.{fits, join_sound}
 use Rattle.composition.proofs.sound_where_allowed.Goals as goal

@@ -7,9 +7,9 @@ use Rattle.model.specs.declared.Fault.{Fault}
 use Rattle.model.specs.declared.Round.{Round}
 use Rattle.composition.specs.Acts.{acts_with, seen_below, renamed_choices, renamed_acts, hidden_acts, joined_choices, joined_acts}
 use Rattle.model.specs.Exchange.{exchange}
-use Rattle.composition.specs.ExchangeLaws.{exchange_twice}
+use Rattle.composition.specs.laws.Exchange.{exchange_twice}
 use Rattle.composition.specs.Faults.{fault_of_renamed, fault_of_hidden, fault_of_joined}
-use Rattle.composition.specs.OutlineLaws.{by_atom_both, by_atom_left, by_atom_right}
+use Rattle.composition.specs.laws.Outlines.{by_atom_both, by_atom_left, by_atom_right}
 use Rattle.composition.specs.Outlines.{outline_with, by_atom, renamed_tables, renamed_outline, hidden_tables, hidden_outline, joined_tables, joined_outline}
 
 by_atom_same : {A : Type 0} (count : ℕ) (left left' right right' : ℕ → A) (a : ℕ) → (a < count → left a ≡ left' a) → (count ≤ a → right (a - count) ≡ right' (a - count)) → by_atom count left right a ≡ by_atom count left' right' a

@@ -1,5 +1,5 @@
 -- What the absence of a fault says, and that each fault has a number.
-use Rattle.std.specs.Prelude.{◌≡◌, ℕ, ◌+◌, ◌<◌, ◌≤◌, Bool, true, false, cond, not, ◌||◌, is_some, Some, None, Option, ◌≢◌, nat_lt, refl}
+use Rattle.std.specs.Prelude.{◌≡◌, ℕ, ◌+◌, ◌≤◌, Bool, true, false, cond, not, ◌||◌, is_some, Some, None, Option, ◌≢◌, nat_lt, refl}
 use Rattle.std.proofs.Common.{sym, ap, subst, arith}
 use Rattle.std.proofs.lemmas.Bool.{true≢false, not-false, or_parts, ltb-false}
 use Rattle.std.specs.Option.{option_or, option_map}
@@ -8,8 +8,9 @@ use Rattle.model.specs.Tests.{lowest}
 use Rattle.model.specs.declared.Fault.{Fault}
 use Rattle.model.specs.declared.Kind.{Kind}
 use Rattle.model.specs.declared.Kind.TheVariants.{Private, Interface, External}
-use Rattle.composition.specs.Faults.{deeper, raised, is_interface, rename_fault, hide_fault, clash, clashes, differs, join_fault, fault_of_renamed, fault_of_hidden, fault_of_joined}
+use Rattle.composition.specs.Faults.{deeper, raised, is_interface, rename_fault, hide_fault, clashes, differs, join_fault, fault_of_renamed, fault_of_hidden, fault_of_joined}
 use Rattle.model.specs.Faults.{own}
+use Rattle.composition.specs.Allowed.{Renames, Hides}
 
 pub some≢none : {A : Type 0} (x : A) → Some x ≢ None
 some≢none x e = true≢false (ap is_some e)
@@ -34,13 +35,6 @@ pub none_from : {A : Type 0} (x : Option A) → is_some x ≡ false → x ≡ No
 none_from None e = refl
 none_from (Some x) e = absurd (true≢false e)
 
--- what renaming without a fault rests on
-pub record Renames (o : OutlineFacts) (a b : ℕ) : Type 0 where
-  pub sound : o.fault ≡ None
-  pub old_there : is_some (o.kind a) ≡ true
-  pub new_free : o.kind b ≡ None
-  pub new_name : b < 32
-
 pub renames : (o : OutlineFacts) (a b : ℕ) → fault_of_renamed o a b ≡ None → Renames o a b
 renames o a b e =
     let parts = or_none (raised 1 o.fault) (rename_fault o a b) e in
@@ -59,11 +53,6 @@ interface_from (Some Private) e = absurd (true≢false (sym e))
 interface_from (Some Interface) e = refl
 interface_from (Some External) e = absurd (true≢false (sym e))
 
--- what hiding without a fault rests on
-pub record Hides (o : OutlineFacts) (n : ℕ) : Type 0 where
-  pub sound : o.fault ≡ None
-  pub interface : o.kind n ≡ Some Interface
-
 pub hides : (o : OutlineFacts) (n : ℕ) → fault_of_hidden o n ≡ None → Hides o n
 hides o n e =
     let parts = or_none (raised 1 o.fault) (hide_fault o n) e in
@@ -71,12 +60,6 @@ hides o n e =
       sound = mapped_none (deeper 1) o.fault parts.0;
       interface = interface_from (o.kind n) (passes _ (own 8 n) parts.1);
     }
-
--- no name clashes, shared names have one top, and there is room for the atoms
-pub record Fits (l r : OutlineFacts) : Type 0 where
-  pub apart : (n : ℕ) → clash (l.kind n) (r.kind n) ≡ false
-  pub level : (n : ℕ) → is_some (l.kind n) ≡ true → is_some (r.kind n) ≡ true → l.top n ≡ r.top n
-  pub room : l.atoms + r.atoms ≤ 16
 
 -- what joining without a fault rests on, as it is looked for
 pub record Joins (l r : OutlineFacts) : Type 0 where

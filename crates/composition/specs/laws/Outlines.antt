@@ -7,8 +7,9 @@ use Rattle.model.specs.declared.Fault.{Fault}
 use Rattle.model.specs.declared.Kind.{Kind}
 use Rattle.model.specs.declared.Kind.TheVariants.{Private, Interface, External}
 use Rattle.model.specs.Exchange.{exchange}
-use Rattle.composition.specs.ExchangeLaws.{exchange_twice, exchange_from}
-use Rattle.composition.specs.FaultLaws.{some≢none, none_from, Numbered, numbered_at, Renames, renames, renamed_numbered, Hides, hides, hidden_numbered, Joins, joins, joined_numbered}
+use Rattle.composition.specs.laws.Exchange.{exchange_twice, exchange_from}
+use Rattle.composition.specs.Allowed.{Renames, Hides}
+use Rattle.composition.specs.laws.Faults.{some≢none, none_from, Numbered, numbered_at, renames, renamed_numbered, hides, hidden_numbered, Joins, joins, joined_numbered}
 use Rattle.composition.specs.Faults.{is_private, is_interface, fault_of_renamed, fault_of_hidden, fault_of_joined}
 use Rattle.composition.specs.Outlines.{outline_with, renamed_tables, renamed_outline, hidden_tables, hidden_outline, joined_kind, by_atom, joined_tables, joined_outline}
 
