@@ -6,8 +6,8 @@ use Rattle.model.specs.declared.Fault.{Fault}
 use Rattle.model.specs.declared.row.Row.{Row}
 use Rattle.language.proofs.TableFronts.{faults_are_the_first}
 use Rattle.language.specs.Tables.{TableSyntax, opened, refused, fault_of, table_opened}
-use Rattle.layout.specs.Read.{Opens, Read}
-use Rattle.layout.specs.declared.parts.Layout.{Layout}
+use Rattle.table.specs.Read.{Opens, Read}
+use Rattle.table.specs.declared.parts.Layout.{Layout}
 use Rattle.table.specs.Contents.{Copied, held}
 
 pub opened_short : (bs : List ℕ) (t : TableSyntax) → table_opened bs ≡ opened t → length bs ≤ 4096

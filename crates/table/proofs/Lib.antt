@@ -1,7 +1,14 @@
+pub mod Answered
+pub mod AtomRows
+pub mod Equalities
 pub mod Held
+pub mod Judged
 pub mod Promised
-pub mod Sets
+pub mod Rows
+pub mod SetItems
 pub mod Standing
 pub mod Told
 pub mod Values
+pub mod VariableRows
 pub mod Walks
+pub mod Words

@@ -22,18 +22,18 @@ use Rattle.language.proofs.Steps.{rank_within}
 use Rattle.language.specs.ExpressionLaws.{none_some}
 use Rattle.language.specs.TableLaws.{table_meaning}
 use Rattle.language.specs.Tables.{TableAtom, TableChoice, bit, size, Opened, opened, refused, table_opened, fault_of, syntax_of, table_fault, table_of, in_set, choices_of, numbers_of, seen_in}
-use Rattle.layout.specs.Laid.{Laid, AtomLaid, ChoiceLaid, ChoicesLaid}
-use Rattle.layout.specs.Rows.{Paired}
-use Rattle.layout.specs.Variables.{at}
-use Rattle.layout.specs.declared.parts.AtomLayout.{AtomLayout}
-use Rattle.layout.specs.Read.{Opens, Read}
-use Rattle.layout.specs.declared.parts.Layout.{Layout}
+use Rattle.table.specs.Laid.{Laid, AtomLaid, ChoiceLaid, ChoicesLaid}
+use Rattle.table.specs.Rows.{Paired}
+use Rattle.table.specs.Variables.{at}
+use Rattle.table.specs.declared.parts.AtomLayout.{AtomLayout}
+use Rattle.table.specs.Read.{Opens, Read}
+use Rattle.table.specs.declared.parts.Layout.{Layout}
 use Rattle.table.specs.Asked.{AtomFound, ChoiceStands, ChoiceFound, layout_in, controlled}
 use Rattle.table.specs.Kept.{contents, outline_of, variable_of, atom_of, choice_of, guard_form, number_if, number_for, number_form, number_bytes_of}
 use Rattle.table.specs.Items.{after_item, item_bytes, item_place}
 use Rattle.table.specs.declared.kept.Table.{Table}
 use Rattle.table.proofs.Held.{opened_short}
-use Rattle.table.proofs.Sets.{variable_set, fault_set}
+use Rattle.table.proofs.Equalities.{variable_set, fault_set}
 use Rattle.table.proofs.Standing.{choice_stands}
 use Rattle.table.proofs.Walks.{place_none}
 

@@ -6,9 +6,9 @@ use Rattle.model.specs.declared.Round.TheVariants.{Initial, Update}
 use Rattle.language.specs.Expressions.{Number, number_bytes, truth_bytes}
 use Rattle.language.specs.Tables.{TableAtom, TableChoice, size}
 use Rattle.model.specs.declared.row.Row.{Row}
-use Rattle.layout.specs.Laid.{AtomLaid}
-use Rattle.layout.specs.Rows.{Paired}
-use Rattle.layout.specs.declared.parts.AtomLayout.{AtomLayout}
+use Rattle.table.specs.Laid.{AtomLaid}
+use Rattle.table.specs.Rows.{Paired}
+use Rattle.table.specs.declared.parts.AtomLayout.{AtomLayout}
 use Rattle.table.specs.Items.{after_item, item_bytes, item_place}
 
 -- the atom, if there is one, lies so

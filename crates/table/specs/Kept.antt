@@ -8,8 +8,8 @@ use Rattle.model.specs.declared.Round.{Round}
 use Rattle.language.specs.Expressions.{Number, number_bytes, truth_bytes}
 use Rattle.language.specs.TableLaws.{table_meaning}
 use Rattle.language.specs.Tables.{TableAtom, TableChoice, bit, variable_at, table_of, table_outline, choices_of, numbers_of}
-use Rattle.layout.specs.Variables.{kept}
-use Rattle.layout.specs.declared.variables.Variable.{Variable}
+use Rattle.table.specs.Variables.{kept}
+use Rattle.table.specs.declared.variables.Variable.{Variable}
 use Rattle.table.specs.Contents.{held}
 use Rattle.table.specs.declared.kept.Table.{Table}
 

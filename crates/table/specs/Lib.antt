@@ -1,6 +1,14 @@
 pub mod Asked
 pub mod Contents
+pub mod Expressions
 pub mod Items
 pub mod Kept
+pub mod Laid
 pub mod Promises
+pub mod Read
+pub mod Reads
+pub mod Rows
+pub mod Rules
+pub mod Sets
 pub mod Stands
+pub mod Variables

@@ -1,10 +1,10 @@
 //! An opened table.
-ghost use Rattle.layout.specs.Read.{Read};
+ghost use Rattle.table.specs.Read.{Read};
 ghost use Rattle.std.specs.Prelude.{◌<◌};
 ghost use Rattle.std.specs.Result.{ForErr};
 ghost use Rattle.table.specs.Contents.{held};
 
-use layout::Layout;
+use crate::parts::Layout;
 use model::{Fault, Row};
 
 mod asking;

@@ -1,7 +1,16 @@
 //! Byte tables: a drawing written as bytes, kept as it was brought and asked in place.
 #![tactic(auto)]
 
+mod atoms;
+mod choices;
+mod expressions;
 mod items;
 mod kept;
+mod parts;
+mod reader;
+mod reading;
+mod rules;
+mod sets;
+mod variables;
 
 pub use kept::Table;

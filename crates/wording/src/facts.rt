@@ -13,7 +13,7 @@ pub struct Variable {
 }
 
 /// An atom's sets, and how many choices it has in each kind of round. Any kind of drawing has these facts: `AtomLayout`
-/// of `layout` has the places of the choices in the bytes of a table instead of counts.
+/// of `table` has the places of the choices in the bytes of a table instead of counts.
 #[derive(Clone, Copy)]
 pub struct Atom {
     pub controls: Names,

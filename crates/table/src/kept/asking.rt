@@ -7,7 +7,8 @@ ghost use Rattle.table.specs.Kept.{contents, variable_of, atom_of, choice_of, gu
 
 use super::Table;
 use crate::items::Item;
-use layout::{AtomLayout, Layout, Places, Variable};
+use crate::parts::{AtomLayout, Layout, Places};
+use crate::variables::Variable;
 use model::{Outline, Round, count_below};
 
 pub fn in_round(atom: &AtomLayout, round: Round) -> &Places

@@ -6,7 +6,7 @@ ghost use Rattle.table.specs.Kept.{contents};
 ghost use Rattle.table.specs.Promises.{OpensAsWritten};
 
 use super::Table;
-use layout::read;
+use crate::reading::read;
 use model::Row;
 
 // A copy of the bytes, or how many they are where there is no room for them.

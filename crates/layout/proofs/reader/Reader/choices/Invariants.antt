@@ -1,9 +1,0 @@
-use Rattle.expression.specs.Checking.{seen_of}
-use Rattle.language.specs.Tables.{read_choice}
-use Rattle.layout.specs.Laid.{ChoicesLaid}
-use Rattle.layout.proofs.Rows.{SoFar}
-use Rattle.layout.proofs.reader.Reader.choices.Given as goal
-
-abbrev pub invariant-loop : goal.invariant-loop
-invariant-loop l =
-    SoFar (read_choice (seen_of l.seen) l.controlled) l.fn.self l.count l.counter l.self (λ made. ChoicesLaid l.fn.self.bytes.now (seen_of l.seen) l.controlled made l.places)

@@ -1,0 +1,29 @@
+use Rattle.std.proofs.Common.{◌+◌, length, ap, subst, ◌∙◌, arith}
+use Rattle.std.proofs.lemmas.Result.{err_from_is_err_and}
+use Rattle.model.specs.Rows.{listed}
+use Rattle.table.specs.Laid.{AtomLaid, AtomsLaid}
+use Rattle.table.proofs.Answered.{as_passes, as_reads}
+use Rattle.table.proofs.Rows.{each_none, each_pushed, pushed_counts, many_none, many_stop, reads_more, reads_all}
+use Rattle.table.proofs.reader.Reader.atoms.Goals as goal
+
+pub loop-init : goal.loop-init
+loop-init c = (ap length c.empty-atoms.ensures, λ vs laid. many_none c.args.self.now c.args.count (rw c.empty-atoms.ensures each_none))
+
+pub returns-in_err-atom : goal.returns-in_err-atom
+returns-in_err-atom c =
+    λ vs laid.
+    let p = err_from_is_err_and c.from_residual.result c.from_residual.ensures.1 in
+    rw (p.1, p.2) (as_reads (many_stop (c.loop.invariant.1 vs laid) (omega arith) (as_passes (c.in_err-atom.ensures vs laid))))
+
+pub loop-preserved : goal.loop-preserved
+loop-preserved c =
+    let atom = c.in_ok-atom.atom in (
+      pushed_counts 16 (listed c.loop.atoms) (listed c.push.new.self) atom c.push.ensures c.unwrap.ensures ∙ ap (λ n. n + 1) c.loop.invariant.0,
+      λ vs laid.
+          let so_far = c.loop.invariant.1 vs laid in
+          reads_more so_far (λ made. AtomsLaid c.args.self.now.bytes.now made c.push.new.self) (omega arith) (c.in_ok-atom.ensures vs laid)
+          (λ x made q. each_pushed 16 q c.push.ensures c.unwrap.ensures (subst (λ b. AtomLaid b.now x atom) so_far.same made)),
+    )
+
+pub returns : goal.returns
+returns c = λ vs laid. reads_all (c.loop.invariant.1 vs laid) c.loop.atoms (omega arith) (λ q. q)

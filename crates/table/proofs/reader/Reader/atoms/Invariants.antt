@@ -1,0 +1,12 @@
+use Rattle.std.proofs.Common.{◌≡◌, List, length}
+use Rattle.language.specs.Tables.{TableVariable, read_atom}
+use Rattle.model.specs.Rows.{listed}
+use Rattle.table.specs.Laid.{AtomsLaid}
+use Rattle.table.specs.Variables.{VariablesLaid}
+use Rattle.table.proofs.Rows.{SoFar}
+use Rattle.table.proofs.reader.Reader.atoms.Given as goal
+
+abbrev pub invariant-loop : goal.invariant-loop
+invariant-loop l =
+    (length (listed l.atoms) ≡ l.counter)
+    × ((vs : List TableVariable) → VariablesLaid vs l.variables → SoFar (read_atom vs) l.fn.self l.count l.counter l.self (λ made. AtomsLaid l.fn.self.bytes.now made l.atoms))

@@ -1,0 +1,102 @@
+//! The bytes of a table one by one.
+ghost use Rattle.language.specs.Tables.{between, byte_item, kind_of};
+ghost use Rattle.table.specs.Reads.{Begins, Tells, Ended, any_byte, any_part, any_word};
+ghost use Rattle.table.specs.Rules.{number_of};
+ghost use Rattle.model.specs.Faults.{own};
+ghost use Rattle.std.specs.Prelude.{◌≡◌, length};
+ghost use Rattle.std.specs.Result.{result_map_both};
+
+use super::Reader;
+use crate::rules::Rule;
+use model::{Fault, Kind};
+
+// The most bytes that a table may have.
+const LIMIT: usize = 4_096;
+
+impl<'a> Reader<'a> {
+    /// At the front of the bytes, if there are not too many.
+    pub fn new(bytes: &'a [u8]) -> Result<Reader<'a>, Fault>
+        ensures { Begins bytes.now result }
+    {
+        if bytes.len() <= LIMIT {
+            Ok(Reader { bytes, place: 0 })
+        } else {
+            Err(Rule::TooLong.broken_at(0))
+        }
+    }
+
+    // Bytes that are missing are missed where the bytes end.
+    fn missing(&self) -> Fault
+        ensures { result ≡ own 2 (length self.now.bytes.now) }
+    {
+        Rule::Missing.broken_at(self.bytes.len())
+    }
+
+    fn byte(&mut self) -> Result<u8, Fault>
+        ensures { Tells any_byte self.old self.new result }
+    {
+        let byte = *self.bytes.get(self.place).ok_or(self.missing())?;
+        self.place += 1;
+        Ok(byte)
+    }
+
+    /// A byte that must lie in a range.
+    pub fn byte_between(&mut self, rule: Rule, low: u8, high: u8) -> Result<u8, Fault>
+        ensures { Tells (byte_item (number_of rule) (between low high)) self.old self.new result }
+    {
+        let place = self.place;
+        let byte = self.byte()?;
+        if low <= byte && byte <= high {
+            Ok(byte)
+        } else {
+            Err(rule.broken_at(place))
+        }
+    }
+
+    /// A variable's kind.
+    pub fn kind(&mut self) -> Result<Kind, Fault>
+        ensures { Tells (byte_item 3 kind_of) self.old self.new result }
+    {
+        let place = self.place;
+        Kind::try_from(self.byte()?).map_err(|_| Rule::Variable.broken_at(place))
+    }
+
+    /// The number that four bytes make, the highest first.
+    pub fn word(&mut self) -> Result<u32, Fault>
+        ensures { Tells any_word self.old self.new result }
+    {
+        let bytes = [self.byte()?, self.byte()?, self.byte()?, self.byte()?];
+        Ok(u32::from_be_bytes(bytes))
+    }
+
+    /// So many bytes.
+    pub fn part(&mut self, size: u8) -> Result<&'a [u8], Fault>
+        ensures { Tells (any_part size) self.old self.new (result_map_both (λ part. part.now) (λ fault. fault) result) }
+    {
+        let start = self.place;
+        let end = start + size as usize;
+        if end > self.bytes.len() {
+            return Err(self.missing());
+        }
+        self.place = end;
+        Ok(&self.bytes[start..end])
+    }
+
+    /// Up to where the bytes have been read.
+    pub fn place(&self) -> u16
+        ensures { result ≡ self.now.place }
+    {
+        self.place as u16
+    }
+
+    /// Nothing may be left over.
+    pub fn end(&self) -> Result<(), Fault>
+        ensures { result ≡ Ended self.now }
+    {
+        if self.place == self.bytes.len() {
+            Ok(())
+        } else {
+            Err(Rule::LeftOver.broken_at(self.place))
+        }
+    }
+}
