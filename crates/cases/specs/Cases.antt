@@ -8,6 +8,9 @@ use Rattle.model.specs.Meanings.{Meaning}
 use Rattle.model.specs.Tests.{lowest}
 use Rattle.model.specs.declared.Fault.{Fault}
 use Rattle.theory.specs.Enumerations.{below}
+use Rattle.units.specs.Refusals.{refusal_fault}
+use Rattle.units.specs.declared.refusal.Refusal.{Refusal}
+use Rattle.units.specs.declared.refusal.Refusal.TheVariants.{SeesTooMuch}
 use Rattle.units.specs.Sealing.{at_lowest, sees_too_much}
 use Rattle.units.specs.Units.{UnitModel, Answer, done, refused, seal, verdict_of, claim, certify, refute}
 
@@ -25,9 +28,13 @@ abbrev pub fault_told : Option Fault → Told
 fault_told None = told 0 0 0
 fault_told (Some f) = record { number = f.number; layer = f.layer; place = f.place; count = 0 }
 
+abbrev pub refusal_told : Option Refusal → Told
+refusal_told None = told 0 0 0
+refusal_told (Some r) = fault_told (Some (refusal_fault r))
+
 abbrev pub answer_told : Answer ℕ → Told
 answer_told (done n) = told 0 0 n
-answer_told (refused f) = fault_told (Some f)
+answer_told (refused r) = refusal_told (Some r)
 
 -- A question, and what the definitions answer. The sight is the one check of sealing on what an atom sees, without the
 -- checks after it, which go through all of that.
@@ -44,8 +51,8 @@ claimed m says = (claim (seal m 1) says).unit
 
 abbrev pub answered : Question → Told
 answered (fault_of table) = fault_told (table_meaning table).outline.fault
-answered (verdict_on m) = fault_told (verdict_of (seal m 1))
-answered (sight_of m) = fault_told (at_lowest 14 (lowest (sees_too_much m.outline) m.outline.atoms))
+answered (verdict_on m) = refusal_told (verdict_of (seal m 1))
+answered (sight_of m) = refusal_told (at_lowest SeesTooMuch (lowest (sees_too_much m.outline) m.outline.atoms))
 answered (certified m says states) = answer_told (certify (claimed m says) 0 states).answer
 answered (refuted m says states) = answer_told (refute (claimed m says) 0 states).answer
 

@@ -10,7 +10,7 @@ use Rattle.language.proofs.Expressions.{readings_are_written}
 use Rattle.model.specs.Meanings.{Meaning}
 use Rattle.model.specs.States.{value, yields, Reachable, InitialState, Successor}
 use Rattle.model.specs.Tests.{lowest}
-use Rattle.model.specs.declared.Fault.{Fault}
+use Rattle.units.specs.declared.refusal.Refusal.{Refusal}
 use Rattle.model.proofs.States.{state_parts}
 use Rattle.theory.specs.Enumerations.{below}
 use Rattle.theory.specs.Runs as runs
@@ -20,6 +20,7 @@ use Rattle.units.specs.Counting.{any}
 use Rattle.units.specs.Evidence.{states_in, wrong_size, certificate_refusal, run_refusal}
 use Rattle.units.specs.Sealing.{at_lowest, if_so, verdict, ◌else◌}
 use Rattle.units.specs.Units.{Claim, Mark, open_mark, held, broken, Phase, idle, standing, in_round, UnitModel, Slip, Outcome, holds, refused_or, verdict_with, verdict_of, kept_claims, made, claim_renamed, claim_joined, is_idle, claim_sight, claim_reading, claim_added, marked_at, of_claim, is_held, not_all_held, round_open, wrong_value, stands, wrong_slip, kind_of_round, old_state, has_fired, must_wait, fire_refusal_in, fired_in, yet_to_fire, withdrawn, ended, end_if, seal, rename_unit, hide_unit, join_units, claim, certify, refute, open_round, fire, end_round, stop}
+use Rattle.units.specs.declared.refusal.Refusal.TheVariants.{ChoiceNotOpen, MustWait, NoAtomToFire, NotAllHeld, NotIdle, RoundOpen, WrongSize, WrongSlip, WrongValue}
 use Rattle.units.proofs.Evidence.{else_parts, at_lowest_parts, if_so_parts}
 use Rattle.units.proofs.Theory.{reached_state, certificates_hold, runs_break}
 use Rattle.life.proofs.Claims.{HoldsThroughout, Right, open_is_true, held_is_true, broken_is_true, all_marked, renamed_right, hidden_right, left_right, right_right}
@@ -42,7 +43,7 @@ pub record Good (u : UnitModel) : Type 0 where
   pub phase_right : PhaseRight u.meaning u.claims u.phase
 
 -- a refused call leaves the unit as it was
-guarded : {A : Type 0} (P : UnitModel → Type 0) (f : Option Fault) (u : UnitModel) (o : Outcome A) → P u → (f ≡ None → P o.unit) → P (refused_or f u o).unit
+guarded : {A : Type 0} (P : UnitModel → Type 0) (f : Option Refusal) (u : UnitModel) (o : Outcome A) → P u → (f ≡ None → P o.unit) → P (refused_or f u o).unit
 guarded P None u o h g = g refl
 guarded P (Some f) u o h g = h
 
@@ -55,7 +56,7 @@ all_turned P Q (x ∷ xs) f h = (f x h.0, all_turned P Q xs f h.1)
 made_good : (m : Meaning) (number rounds : ℕ) (cs : List Claim) → (verdict m ≡ None → All (Right m) cs) → Good (made m number rounds cs)
 made_good m number rounds cs f = record { claims_right = go (verdict_with m (ltb 8 (length cs))) refl; phase_right = tt }
   where
-    go : (v : Option Fault) → verdict_with m (ltb 8 (length cs)) ≡ v → All (Right m) (kept_claims v cs)
+    go : (v : Option Refusal) → verdict_with m (ltb 8 (length cs)) ≡ v → All (Right m) (kept_claims v cs)
     go None e = f (else_parts (verdict m) _ e).0
     go (Some v) e = tt
 
@@ -114,10 +115,10 @@ idle_right m cs (in_round before new fired) e = absurd (both_ways false refl e)
 pub claim_good : (u : UnitModel) (bs : List ℕ) → Good u → Good (claim u bs).unit
 claim_good u bs g = guarded Good _ u _ g (λ e.
     let one = else_parts (verdict_of u) _ e in
-    let two = else_parts (if_so 19 (not (is_idle u.phase))) _ one.1 in
+    let two = else_parts (if_so NotIdle (not (is_idle u.phase))) _ one.1 in
     record {
       claims_right = go (claim_reading u.meaning bs) refl;
-      phase_right = idle_right u.meaning _ u.phase (not-false (is_idle u.phase) (if_so_parts 19 _ two.0));
+      phase_right = idle_right u.meaning _ u.phase (not-false (is_idle u.phase) (if_so_parts NotIdle _ two.0));
     })
   where
     go : (r : Reading Truth) → claim_reading u.meaning bs ≡ r → All (Right u.meaning) (claim_added u.claims r)
@@ -132,7 +133,7 @@ phase_marked m cs i mark (standing s) h = (all_marked (HoldsThroughout m) cs i m
 phase_marked m cs i mark (in_round before new fired) h = (all_marked (HoldsThroughout m) cs i mark h.0 (λ c e k. k), h.1, h.2)
 
 -- what is asked of the claim that is there
-pub asked : (o : Option Claim) (c : Claim) (check : Claim → Option Fault) → o ≡ Some c → of_claim o check ≡ None → check c ≡ None
+pub asked : (o : Option Claim) (c : Claim) (check : Claim → Option Refusal) → o ≡ Some c → of_claim o check ≡ None → check c ≡ None
 asked o c check e h = subst (λ x. of_claim x check ≡ None) e h
 
 some_states : (bs : List ℕ) → wrong_size bs ≡ false → 1 ≤ length (states_in bs)
@@ -147,11 +148,11 @@ some_states bs h =
 pub certify_good : (u : UnitModel) (i : ℕ) (bs : List ℕ) → Good u → Good (certify u i bs).unit
 certify_good u i bs g = guarded Good _ u _ g (λ e.
     let m = u.meaning in
-    let check : Claim → Option Fault = λ c. if_so 23 (wrong_size bs) else certificate_refusal m (holds c) (states_in bs) in
+    let check : Claim → Option Refusal = λ c. if_so WrongSize (wrong_size bs) else certificate_refusal m (holds c) (states_in bs) in
     let one : of_claim (slice_get u.claims i) check ≡ None = (else_parts (verdict_of u) _ e).1 in
     record {
       claims_right = all_marked (Right m) u.claims i held g.claims_right (λ c there right.
-          let fine = else_parts (if_so 23 (wrong_size bs)) (certificate_refusal m (holds c) (states_in bs)) (asked (slice_get u.claims i) c check there one) in
+          let fine = else_parts (if_so WrongSize (wrong_size bs)) (certificate_refusal m (holds c) (states_in bs)) (asked (slice_get u.claims i) c check there one) in
           record { sees = right.sees; marked = held_is_true m c.says (certificates_hold m (holds c) (states_in bs) fine.1) });
       phase_right = phase_marked m u.claims i held u.phase g.phase_right;
     })
@@ -159,12 +160,12 @@ certify_good u i bs g = guarded Good _ u _ g (λ e.
 pub refute_good : (u : UnitModel) (i : ℕ) (bs : List ℕ) → Good u → Good (refute u i bs).unit
 refute_good u i bs g = guarded Good _ u _ g (λ e.
     let m = u.meaning in
-    let check : Claim → Option Fault = λ c. if_so 23 (wrong_size bs) else run_refusal m (holds c) (states_in bs) in
+    let check : Claim → Option Refusal = λ c. if_so WrongSize (wrong_size bs) else run_refusal m (holds c) (states_in bs) in
     let one : of_claim (slice_get u.claims i) check ≡ None = (else_parts (verdict_of u) _ e).1 in
     record {
       claims_right = all_marked (Right m) u.claims i broken g.claims_right (λ c there right.
-          let fine = else_parts (if_so 23 (wrong_size bs)) (run_refusal m (holds c) (states_in bs)) (asked (slice_get u.claims i) c check there one) in
-          record { sees = right.sees; marked = broken_is_true m c.says (runs_break m (holds c) (states_in bs) (some_states bs (if_so_parts 23 _ fine.0)) fine.1) });
+          let fine = else_parts (if_so WrongSize (wrong_size bs)) (run_refusal m (holds c) (states_in bs)) (asked (slice_get u.claims i) c check there one) in
+          record { sees = right.sees; marked = broken_is_true m c.says (runs_break m (holds c) (states_in bs) (some_states bs (if_so_parts WrongSize _ fine.0)) fine.1) });
       phase_right = phase_marked m u.claims i broken u.phase g.phase_right;
     })
 
@@ -194,12 +195,12 @@ pub open_good : (u : UnitModel) (given : List ℕ) → length given ≡ 32 → G
 open_good u given long g = guarded Good _ u _ g (λ e.
     let m = u.meaning in
     let one = else_parts (verdict_of u) _ e in
-    let two = else_parts (if_so 28 (not_all_held u.claims)) _ one.1 in
-    let three = else_parts (if_so 29 (round_open u.phase)) _ two.1 in
-    let four = else_parts (at_lowest 30 (lowest (wrong_value m.outline given) 32)) _ three.1 in
+    let two = else_parts (if_so NotAllHeld (not_all_held u.claims)) _ one.1 in
+    let three = else_parts (if_so RoundOpen (round_open u.phase)) _ two.1 in
+    let four = else_parts (at_lowest WrongValue (lowest (wrong_value m.outline given) 32)) _ three.1 in
     record {
       claims_right = g.claims_right;
-      phase_right = (all_hold m u.claims (if_so_parts 28 _ two.0) g.claims_right, stood m u.claims u.phase g.phase_right, begins m (stands u.phase) given long (at_lowest_parts 30 _ four.0));
+      phase_right = (all_hold m u.claims (if_so_parts NotAllHeld _ two.0) g.claims_right, stood m u.claims u.phase g.phase_right, begins m (stands u.phase) given long (at_lowest_parts WrongValue _ four.0));
     })
 
 pub zeros : (k n : ℕ) → value (replicate k 0) n ≡ 0
@@ -215,18 +216,18 @@ fire_right : (m : Meaning) (cs : List Claim) (fit : Keeps m) (p : Phase) (a k : 
 fire_right m cs fit idle a k h e = tt
 fire_right m cs fit (standing s) a k h e = h
 fire_right m cs fit (in_round before new fired) a k h e =
-    let one = else_parts (if_so 33 (not (ltb a m.outline.atoms) || has_fired fired a)) _ e in
-    let two = else_parts (if_so 34 (must_wait m.outline fired a)) _ one.1 in
-    let there = or_parts (not (ltb a m.outline.atoms)) (has_fired fired a) (if_so_parts 33 _ one.0) in (
+    let one = else_parts (if_so NoAtomToFire (not (ltb a m.outline.atoms) || has_fired fired a)) _ e in
+    let two = else_parts (if_so MustWait (must_wait m.outline fired a)) _ one.1 in
+    let there = or_parts (not (ltb a m.outline.atoms)) (has_fired fired a) (if_so_parts NoAtomToFire _ one.0) in (
       h.0,
       h.1,
-      fires m fit before (old_in_range m before h.1) new fired h.2 a k (ltb-true a m.outline.atoms (not-false _ there.0)) there.1 (if_so_parts 34 _ two.0) (not-false _ (if_so_parts 35 _ two.1)),
+      fires m fit before (old_in_range m before h.1) new fired h.2 a k (ltb-true a m.outline.atoms (not-false _ there.0)) there.1 (if_so_parts MustWait _ two.0) (not-false _ (if_so_parts ChoiceNotOpen _ two.1)),
     )
 
 pub fire_good : (u : UnitModel) (slip : Slip) (a k : ℕ) → Good u → Good (fire u slip a k).unit
 fire_good u slip a k g = guarded Good _ u _ g (λ e.
     let one = else_parts (verdict_of u) _ e in
-    let two = else_parts (if_so 31 (wrong_slip u slip)) _ one.1 in
+    let two = else_parts (if_so WrongSlip (wrong_slip u slip)) _ one.1 in
     record {
       claims_right = g.claims_right;
       phase_right = fire_right u.meaning u.claims (keeps u.meaning (else_parts (verdict u.meaning) _ one.0).0) u.phase a k g.phase_right two.1;

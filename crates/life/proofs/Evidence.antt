@@ -3,7 +3,7 @@ use Rattle.std.proofs.Common.{◌≡◌, ℕ, ◌≤◌, List, [], ◌∷◌, le
 use Rattle.std.specs.List.{AllByRecursion as All, slice_get}
 use Rattle.model.specs.Meanings.{Meaning}
 use Rattle.model.specs.States.{Reachable, InitialState, Successor, Trajectory}
-use Rattle.model.specs.declared.Fault.{Fault}
+use Rattle.units.specs.declared.refusal.Refusal.{Refusal}
 use Rattle.model.proofs.States.{state_parts}
 use Rattle.theory.specs.Members.{Member, Exactly}
 use Rattle.theory.proofs.Runs.{visited_reachable}
@@ -11,6 +11,7 @@ use Rattle.units.specs.Evidence.{states_in, wrong_size, certificate_refusal, run
 use Rattle.units.specs.Promises.{EvidenceCanBeHad}
 use Rattle.units.specs.Sealing.{if_so, verdict, ◌else◌}
 use Rattle.units.specs.Units.{UnitModel, Claim, holds, verdict_of, of_claim}
+use Rattle.units.specs.declared.refusal.Refusal.TheVariants.{WrongSize}
 use Rattle.units.proofs.Evidence.{else_parts, else_from}
 use Rattle.units.proofs.Theory.{reached_state, certificates_hold, evidence_exists, runs_judged}
 use Rattle.life.proofs.Beginnings.{some_initial_state}
@@ -39,12 +40,12 @@ module _ (u : UnitModel) (fine : verdict_of u ≡ None) (i : ℕ) (c : Claim) (t
   m = u.meaning
 
   -- what is judged of written states is judged of the states
-  accepted : (check : Claim → List (List ℕ) → Option Fault) (ss : List (List ℕ)) → Long ss → 1 ≤ length ss → length ss ≤ 2048 → check c ss ≡ None →
-      (verdict_of u else of_claim (slice_get u.claims i) (λ d. if_so 23 (wrong_size (bytes_of ss)) else check d (states_in (bytes_of ss)))) ≡ None
+  accepted : (check : Claim → List (List ℕ) → Option Refusal) (ss : List (List ℕ)) → Long ss → 1 ≤ length ss → length ss ≤ 2048 → check c ss ≡ None →
+      (verdict_of u else of_claim (slice_get u.claims i) (λ d. if_so WrongSize (wrong_size (bytes_of ss)) else check d (states_in (bytes_of ss)))) ≡ None
   accepted check ss long some few h =
       else_from (verdict_of u) _ fine
-      (subst (λ x. of_claim x (λ d. if_so 23 (wrong_size (bytes_of ss)) else check d (states_in (bytes_of ss))) ≡ None) (sym there)
-      (else_from (if_so 23 (wrong_size (bytes_of ss))) _ (ap (if_so 23) (right_size ss long some few)) (ap (check c) (states_back ss long) ∙ h)))
+      (subst (λ x. of_claim x (λ d. if_so WrongSize (wrong_size (bytes_of ss)) else check d (states_in (bytes_of ss))) ≡ None) (sym there)
+      (else_from (if_so WrongSize (wrong_size (bytes_of ss))) _ (ap (if_so WrongSize) (right_size ss long some few)) (ap (check c) (states_back ss long) ∙ h)))
 
   pub evidence_had : (all : List (List ℕ)) → Exactly (Reachable m) all → length all ≤ 2048 → EvidenceCanBeHad u i c all
   evidence_had all exact few =
@@ -57,9 +58,9 @@ module _ (u : UnitModel) (fine : verdict_of u ≡ None) (i : ℕ) (c : Claim) (t
           λ good. (bytes_of all, accepted (λ d. certificate_refusal m (holds d)) all long some few (exists.certified good)),
           λ found t r.
               let bs = found.0 in
-              let check : Claim → Option Fault = λ d. if_so 23 (wrong_size bs) else certificate_refusal m (holds d) (states_in bs) in
+              let check : Claim → Option Refusal = λ d. if_so WrongSize (wrong_size bs) else certificate_refusal m (holds d) (states_in bs) in
               let judged = asked (slice_get u.claims i) c check there (else_parts (verdict_of u) _ found.1).1 in
-              certificates_hold m (holds c) (states_in bs) (else_parts (if_so 23 (wrong_size bs)) _ judged).1 t r,
+              certificates_hold m (holds c) (states_in bs) (else_parts (if_so WrongSize (wrong_size bs)) _ judged).1 t r,
         );
         run = λ t r e.
             let found = exists.falsified t r e in

@@ -15,8 +15,9 @@ use Rattle.theory.specs.Enumerations.{below}
 use Rattle.theory.specs.Members.{Member}
 use Rattle.theory.proofs.Enumerations.{ranges_exact, pairs_exact, length_below}
 use Rattle.units.specs.Counting.{any}
-use Rattle.units.specs.Sealing.{owned, controllers, badly_controlled, awaits_through, circular, sees_too_much, values_at, old_names, sights, nothing_open, in_some_round, gets_stuck, within, gives_outside, leaves_range, at_lowest, verdict}
-use Rattle.units.proofs.Evidence.{else_parts, at_lowest_parts}
+use Rattle.units.specs.Sealing.{owned, controllers, badly_controlled, awaits_through, circular, sees_too_much, values_at, old_names, sights, nothing_open, in_some_round, gets_stuck, within, gives_outside, leaves_range, at_lowest, of_drawing, verdict}
+use Rattle.units.specs.declared.refusal.Refusal.TheVariants.{AwaitsItself, GetsStuck, LeavesRange, NotOneController, SeesTooMuch}
+use Rattle.units.proofs.Evidence.{else_parts, at_lowest_parts, of_drawing_parts}
 use Rattle.units.proofs.Listed.{none_passes, below_at}
 use Rattle.model.proofs.Counted.{some_clear, some_counted, only_one}
 
@@ -125,18 +126,18 @@ owned_from (Some External) h g = absurd (g refl)
 
 module _ (m : Meaning) (fine : verdict m ≡ None) where
   pub fault_clear : m.outline.fault ≡ None
-  fault_clear = (else_parts m.outline.fault _ fine).0
+  fault_clear = of_drawing_parts m.outline.fault (else_parts (of_drawing m.outline.fault) _ fine).0
 
   pub keeps : Keeps m
   keeps =
-      let twelve = else_parts (at_lowest 12 (lowest (badly_controlled m.outline) 32)) _ (else_parts m.outline.fault _ fine).1 in
-      let thirteen = else_parts (at_lowest 13 (lowest (circular m.outline) m.outline.atoms)) _ twelve.1 in
-      let fourteen = else_parts (at_lowest 14 (lowest (sees_too_much m.outline) m.outline.atoms)) _ thirteen.1 in
-      let fifteen = else_parts (at_lowest 15 (lowest (gets_stuck m) m.outline.atoms)) _ fourteen.1 in
+      let twelve = else_parts (at_lowest NotOneController (lowest (badly_controlled m.outline) 32)) _ (else_parts (of_drawing m.outline.fault) _ fine).1 in
+      let thirteen = else_parts (at_lowest AwaitsItself (lowest (circular m.outline) m.outline.atoms)) _ twelve.1 in
+      let fourteen = else_parts (at_lowest SeesTooMuch (lowest (sees_too_much m.outline) m.outline.atoms)) _ thirteen.1 in
+      let fifteen = else_parts (at_lowest GetsStuck (lowest (gets_stuck m) m.outline.atoms)) _ fourteen.1 in
       let one_each : (n : ℕ) → owned (m.outline.kind n) ≡ true → n < 32 → controllers m.outline n ≡ 1 = λ n h l.
-      let clear = lowest_clear (badly_controlled m.outline) 32 (at_lowest_parts 12 _ twelve.0) n l in
+      let clear = lowest_clear (badly_controlled m.outline) 32 (at_lowest_parts NotOneController _ twelve.0) n l in
       eqb-true _ 1 (not-false _ (⊎_elim (λ f. absurd (both_ways (owned (m.outline.kind n)) f h)) (λ f. f) (and_cases (owned (m.outline.kind n)) (not (eqb (controllers m.outline n) 1)) clear))) in
-      let sixteen = else_parts (at_lowest 16 (lowest (leaves_range m) m.outline.atoms)) _ fifteen.1 in
+      let sixteen = else_parts (at_lowest LeavesRange (lowest (leaves_range m) m.outline.atoms)) _ fifteen.1 in
       record {
         one_controller = λ a b n c d.
             let known = m.outline_laws.controls_known a n c in
@@ -146,7 +147,7 @@ module _ (m : Meaning) (fine : verdict m ≡ None) where
             let one = one_each n h l in
             let found = some_counted (λ a. m.outline.controls a n) m.outline.atoms (omega arith) in
             (found.0, found.2);
-        acyclic = lowest_clear (circular m.outline) m.outline.atoms (at_lowest_parts 13 _ thirteen.0);
-        some_open = λ r a old new l. never_stuck m r a old new (lowest_clear (gets_stuck m) m.outline.atoms (at_lowest_parts 15 _ fifteen.0) a l);
-        given_in_range = λ r a k n old new l g h. stays_in_range m r a old new (lowest_clear (leaves_range m) m.outline.atoms (at_lowest_parts 16 _ sixteen.0) a l) g h k n;
+        acyclic = lowest_clear (circular m.outline) m.outline.atoms (at_lowest_parts AwaitsItself _ thirteen.0);
+        some_open = λ r a old new l. never_stuck m r a old new (lowest_clear (gets_stuck m) m.outline.atoms (at_lowest_parts GetsStuck _ fifteen.0) a l);
+        given_in_range = λ r a k n old new l g h. stays_in_range m r a old new (lowest_clear (leaves_range m) m.outline.atoms (at_lowest_parts LeavesRange _ sixteen.0) a l) g h k n;
       }

@@ -6,7 +6,7 @@ use Rattle.composition.specs.laws.Faults.{none_from}
 use Rattle.model.specs.Meanings.{Valuation, OutlineFacts, Alike, Meaning}
 use Rattle.model.specs.States.{value, yields}
 use Rattle.model.specs.Tests.{lowest, count}
-use Rattle.model.specs.declared.Fault.{Fault}
+use Rattle.units.specs.declared.refusal.Refusal.{Refusal}
 use Rattle.model.specs.declared.Kind.{Kind}
 use Rattle.model.specs.declared.Kind.TheVariants.{Private, Interface, External}
 use Rattle.model.specs.declared.Round.{Round}
@@ -16,6 +16,7 @@ use Rattle.model.proofs.States.{state_parts, takes_parts, yields_parts}
 use Rattle.theory.specs.Enumerations.{below}
 use Rattle.units.specs.Sealing.{owned, is_external, at_lowest, if_so, verdict, ◌else◌}
 use Rattle.units.specs.Units.{Phase, idle, standing, in_round, UnitModel, Slip, done, Outcome, refused_or, unless, verdict_of, not_all_held, round_open, wrong_value, stands, wrong_slip, kind_of_round, old_state, has_fired, must_wait, fire_refusal_in, as_value, values_made, yet_to_fire, ended, end_if, open_round, fire, end_round}
+use Rattle.units.specs.declared.refusal.Refusal.TheVariants.{ChoiceNotOpen, MustWait, NoAtomToFire, NoRoundLeft, NotAllHeld, RoundOpen, WrongSlip, WrongValue}
 use Rattle.units.proofs.Evidence.{else_parts, else_from, if_so_parts}
 use Rattle.life.specs.Promises.{Accepted, Follows, EndedInOutcome, RoundsEndOnlyInOutcomes, after_fires, FiresAccepted, next_slip, RoundsReachEveryOutcome}
 use Rattle.life.proofs.Beginnings.{Ready, next}
@@ -36,7 +37,7 @@ follows_parts m None t h = h.yielded
 follows_parts m (Some s) t h = h.yielded
 
 -- an accepted call was refused for nothing
-accepted_none : {A : Type 0} (f : Option Fault) (u : UnitModel) (o : Outcome A) → Accepted (refused_or f u o).answer → f ≡ None
+accepted_none : {A : Type 0} (f : Option Refusal) (u : UnitModel) (o : Outcome A) → Accepted (refused_or f u o).answer → f ≡ None
 accepted_none None u o h = refl
 accepted_none (Some f) u o h = absurd h
 
@@ -49,11 +50,11 @@ open_phase u slip h = go (round_open u.phase) refl (not-false _ h)
 
 pub end_in_outcomes : RoundsEndOnlyInOutcomes
 end_in_outcomes u h slip accepted =
-    let clear : (verdict_of u else if_so 31 (wrong_slip u slip)) ≡ None = accepted_none _ u _ accepted in
-    let opened = open_phase u slip (if_so_parts 31 _ (else_parts (verdict_of u) _ clear).1) in
+    let clear : (verdict_of u else if_so WrongSlip (wrong_slip u slip)) ≡ None = accepted_none _ u _ accepted in
+    let opened = open_phase u slip (if_so_parts WrongSlip _ (else_parts (verdict_of u) _ clear).1) in
     subst (λ o. EndedInOutcome u o.unit) (sym (through clear)) (go u.phase refl opened (came_good h).phase_right (subst (λ o. Accepted o.answer) (through clear) accepted))
   where
-    through : (verdict_of u else if_so 31 (wrong_slip u slip)) ≡ None → end_round u slip ≡ end_if (eqb (yet_to_fire u.meaning u.phase) 0) u
+    through : (verdict_of u else if_so WrongSlip (wrong_slip u slip)) ≡ None → end_round u slip ≡ end_if (eqb (yet_to_fire u.meaning u.phase) 0) u
     through e = ap (λ f. refused_or f u (end_if (eqb (yet_to_fire u.meaning u.phase) 0) u)) e
 
     gone : (b : Bool) → Accepted (end_if b u).answer → b ≡ true
@@ -162,7 +163,7 @@ module _ (m : Meaning) (fit : Keeps m) (before : Option (List ℕ)) (t : List �
     }
 
 -- calls that are refused for nothing do what they should
-module _ {A : Type 0} (f : Option Fault) (u after : UnitModel) (answer : A) (clear : f ≡ None) where
+module _ {A : Type 0} (f : Option Refusal) (u after : UnitModel) (answer : A) (clear : f ≡ None) where
   unrefused : unless f u after answer ≡ record { unit = after; answer = done answer }
   unrefused = ap (λ g. unless g u after answer) clear
 
@@ -216,13 +217,13 @@ module _ (u : UnitModel) (fine : verdict_of u ≡ None) (before : Option (List �
     abbrev there : Phase
     there = in_round before (values_made m before new atom choice) (set fired atom true)
 
-    fire_clear : (verdict_of here else if_so 31 (wrong_slip here slip) else fire_refusal_in m (in_round before new fired) atom choice) ≡ None
+    fire_clear : (verdict_of here else if_so WrongSlip (wrong_slip here slip) else fire_refusal_in m (in_round before new fired) atom choice) ≡ None
     fire_clear =
         else_from (verdict_of here) _ fine
-        (else_from (if_so 31 (wrong_slip here slip)) _ (ap (if_so 31) (right_slip new fired))
-        (else_from (if_so 33 (not (ltb atom m.outline.atoms) || has_fired fired atom)) _ (ap (if_so 33) (or_from _ _ (not_from_true _ (lt-ltb atom m.outline.atoms r.there)) r.unfired))
-        (else_from (if_so 34 (must_wait m.outline fired atom)) _ (ap (if_so 34) r.ready)
-        (ap (if_so 35) (not_from_true _ (taken m fit before t leads new fired h r).1)))))
+        (else_from (if_so WrongSlip (wrong_slip here slip)) _ (ap (if_so WrongSlip) (right_slip new fired))
+        (else_from (if_so NoAtomToFire (not (ltb atom m.outline.atoms) || has_fired fired atom)) _ (ap (if_so NoAtomToFire) (or_from _ _ (not_from_true _ (lt-ltb atom m.outline.atoms r.there)) r.unfired))
+        (else_from (if_so MustWait (must_wait m.outline fired atom)) _ (ap (if_so MustWait) r.ready)
+        (ap (if_so ChoiceNotOpen) (not_from_true _ (taken m fit before t leads new fired h r).1)))))
 
     one_step : Steps (values_made m before new atom choice) (set fired atom true) → Steps new fired
     one_step rest =
@@ -279,7 +280,7 @@ module _ (u : UnitModel) (fine : verdict_of u ≡ None) (before : Option (List �
   ends : (fired : List Bool) → left fired ≡ 0 → end_round (in_phase (in_round before t fired)) slip ≡ record { unit = in_phase (standing t); answer = done 0 }
   ends fired none =
       let here = in_phase (in_round before t fired) in
-      ap (λ f. refused_or f here (end_if (eqb (left fired) 0) here)) (else_from (verdict_of here) _ fine (ap (if_so 31) (right_slip t fired))) ∙
+      ap (λ f. refused_or f here (end_if (eqb (left fired) 0) here)) (else_from (verdict_of here) _ fine (ap (if_so WrongSlip) (right_slip t fired))) ∙
       ap (λ b. end_if b here) (eq-eqb (left fired) 0 none)
 
 pub reach_outcomes : RoundsReachEveryOutcome
@@ -289,12 +290,12 @@ reach_outcomes u fine all_held closed room t follows =
     let first = given u fine before t leads in
     let begin = in_phase u fine before t leads (in_round before first (replicate 16 false)) in
     let slip = next_slip u in
-    let clear : (verdict_of u else if_so 28 (not_all_held u.claims) else if_so 29 (round_open u.phase) else at_lowest 30 (lowest (wrong_value u.meaning.outline first) 32) else if_so 32 (eqb u.rounds 4294967295)) ≡ None =
+    let clear : (verdict_of u else if_so NotAllHeld (not_all_held u.claims) else if_so RoundOpen (round_open u.phase) else at_lowest WrongValue (lowest (wrong_value u.meaning.outline first) 32) else if_so NoRoundLeft (eqb u.rounds 4294967295)) ≡ None =
     else_from (verdict_of u) _ fine
-    (else_from (if_so 28 (not_all_held u.claims)) _ (ap (if_so 28) all_held)
-    (else_from (if_so 29 (round_open u.phase)) _ (ap (if_so 29) closed)
-    (else_from (at_lowest 30 (lowest (wrong_value u.meaning.outline first) 32)) _ (ap (at_lowest 30) (none_wrong u fine before t leads))
-    (ap (if_so 32) (ne_eqb u.rounds 4294967295 (omega arith)))))) in
+    (else_from (if_so NotAllHeld (not_all_held u.claims)) _ (ap (if_so NotAllHeld) all_held)
+    (else_from (if_so RoundOpen (round_open u.phase)) _ (ap (if_so RoundOpen) closed)
+    (else_from (at_lowest WrongValue (lowest (wrong_value u.meaning.outline first) 32)) _ (ap (at_lowest WrongValue) (none_wrong u fine before t leads))
+    (ap (if_so NoRoundLeft) (ne_eqb u.rounds 4294967295 (omega arith)))))) in
     let opened : open_round u first ≡ record { unit = begin; answer = done slip } = unrefused _ u begin slip clear in
     let s = all_steps u fine before t leads in
     let last : after_fires (open_round u first).unit slip s.steps ≡ in_phase u fine before t leads (in_round before t s.all) = ap (λ w. after_fires w.unit slip s.steps) opened ∙ s.reaches in

@@ -10,8 +10,9 @@ use Rattle.model.proofs.Lowest.{lowest_clear, clear_lowest}
 use Rattle.theory.specs.Enumerations.{below}
 use Rattle.theory.specs.Members.{Member, Distinct}
 use Rattle.theory.proofs.Enumerations.{below_exact}
-use Rattle.units.specs.Sealing.{owned, badly_controlled, circular, sight, sees_too_much, gets_stuck, leaves_range, width, at_lowest, if_so, verdict}
-use Rattle.units.proofs.Evidence.{else_parts, else_from, at_lowest_parts, if_so_parts}
+use Rattle.units.specs.Sealing.{owned, badly_controlled, circular, sight, sees_too_much, gets_stuck, leaves_range, width, at_lowest, if_so, of_drawing, verdict}
+use Rattle.units.specs.declared.refusal.Refusal.TheVariants.{AwaitsItself, GetsStuck, LeavesRange, NotOneController, SeesTooMuch, TooWide}
+use Rattle.units.proofs.Evidence.{else_parts, else_from, at_lowest_parts, if_so_parts, of_drawing_parts}
 use Rattle.reactive.specs.Modules.{Below, module_of, Limits}
 use Rattle.reactive.specs.Reactive.{Plus.one, IsDeclaration, IsModule}
 use Rattle.reactive.specs.Statements.{FitExactlyWhenAModuleWithinLimits}
@@ -59,31 +60,31 @@ pub record Passed (m : Meaning) : Type 0 where
 module _ (m : Meaning) where
   pub passed : verdict m ≡ None → Passed m
   passed h =
-      let one = else_parts m.outline.fault _ h in
-      let two = else_parts (at_lowest 12 (lowest (badly_controlled m.outline) 32)) _ one.1 in
-      let three = else_parts (at_lowest 13 (lowest (circular m.outline) m.outline.atoms)) _ two.1 in
-      let four = else_parts (at_lowest 14 (lowest (sees_too_much m.outline) m.outline.atoms)) _ three.1 in
-      let five = else_parts (at_lowest 15 (lowest (gets_stuck m) m.outline.atoms)) _ four.1 in
-      let six = else_parts (at_lowest 16 (lowest (leaves_range m) m.outline.atoms)) _ five.1 in
+      let one = else_parts (of_drawing m.outline.fault) _ h in
+      let two = else_parts (at_lowest NotOneController (lowest (badly_controlled m.outline) 32)) _ one.1 in
+      let three = else_parts (at_lowest AwaitsItself (lowest (circular m.outline) m.outline.atoms)) _ two.1 in
+      let four = else_parts (at_lowest SeesTooMuch (lowest (sees_too_much m.outline) m.outline.atoms)) _ three.1 in
+      let five = else_parts (at_lowest GetsStuck (lowest (gets_stuck m) m.outline.atoms)) _ four.1 in
+      let six = else_parts (at_lowest LeavesRange (lowest (leaves_range m) m.outline.atoms)) _ five.1 in
       record {
-        sound = one.0;
-        controlled = lowest_clear (badly_controlled m.outline) 32 (at_lowest_parts 12 _ two.0);
-        uncircled = lowest_clear (circular m.outline) m.outline.atoms (at_lowest_parts 13 _ three.0);
-        sights = λ a l. ltb-false 65536 (sight m.outline a) (lowest_clear (sees_too_much m.outline) m.outline.atoms (at_lowest_parts 14 _ four.0) a l);
-        free = lowest_clear (gets_stuck m) m.outline.atoms (at_lowest_parts 15 _ five.0);
-        inside = lowest_clear (leaves_range m) m.outline.atoms (at_lowest_parts 16 _ six.0);
-        ways = ltb-false 1048576 (width m) (if_so_parts 17 _ six.1);
+        sound = of_drawing_parts m.outline.fault one.0;
+        controlled = lowest_clear (badly_controlled m.outline) 32 (at_lowest_parts NotOneController _ two.0);
+        uncircled = lowest_clear (circular m.outline) m.outline.atoms (at_lowest_parts AwaitsItself _ three.0);
+        sights = λ a l. ltb-false 65536 (sight m.outline a) (lowest_clear (sees_too_much m.outline) m.outline.atoms (at_lowest_parts SeesTooMuch _ four.0) a l);
+        free = lowest_clear (gets_stuck m) m.outline.atoms (at_lowest_parts GetsStuck _ five.0);
+        inside = lowest_clear (leaves_range m) m.outline.atoms (at_lowest_parts LeavesRange _ six.0);
+        ways = ltb-false 1048576 (width m) (if_so_parts TooWide _ six.1);
       }
 
   passes : Passed m → verdict m ≡ None
   passes p =
-      else_from m.outline.fault _ p.sound
-      (else_from (at_lowest 12 (lowest (badly_controlled m.outline) 32)) _ (ap (at_lowest 12) (clear_lowest (badly_controlled m.outline) 32 p.controlled))
-      (else_from (at_lowest 13 (lowest (circular m.outline) m.outline.atoms)) _ (ap (at_lowest 13) (clear_lowest (circular m.outline) m.outline.atoms p.uncircled))
-      (else_from (at_lowest 14 (lowest (sees_too_much m.outline) m.outline.atoms)) _ (ap (at_lowest 14) (clear_lowest (sees_too_much m.outline) m.outline.atoms (λ a l. le-ltb 65536 (sight m.outline a) (p.sights a l))))
-      (else_from (at_lowest 15 (lowest (gets_stuck m) m.outline.atoms)) _ (ap (at_lowest 15) (clear_lowest (gets_stuck m) m.outline.atoms p.free))
-      (else_from (at_lowest 16 (lowest (leaves_range m) m.outline.atoms)) _ (ap (at_lowest 16) (clear_lowest (leaves_range m) m.outline.atoms p.inside))
-      (ap (if_so 17) (le-ltb 1048576 (width m) p.ways)))))))
+      else_from (of_drawing m.outline.fault) _ (ap of_drawing p.sound)
+      (else_from (at_lowest NotOneController (lowest (badly_controlled m.outline) 32)) _ (ap (at_lowest NotOneController) (clear_lowest (badly_controlled m.outline) 32 p.controlled))
+      (else_from (at_lowest AwaitsItself (lowest (circular m.outline) m.outline.atoms)) _ (ap (at_lowest AwaitsItself) (clear_lowest (circular m.outline) m.outline.atoms p.uncircled))
+      (else_from (at_lowest SeesTooMuch (lowest (sees_too_much m.outline) m.outline.atoms)) _ (ap (at_lowest SeesTooMuch) (clear_lowest (sees_too_much m.outline) m.outline.atoms (λ a l. le-ltb 65536 (sight m.outline a) (p.sights a l))))
+      (else_from (at_lowest GetsStuck (lowest (gets_stuck m) m.outline.atoms)) _ (ap (at_lowest GetsStuck) (clear_lowest (gets_stuck m) m.outline.atoms p.free))
+      (else_from (at_lowest LeavesRange (lowest (leaves_range m) m.outline.atoms)) _ (ap (at_lowest LeavesRange) (clear_lowest (leaves_range m) m.outline.atoms p.inside))
+      (ap (if_so TooWide) (le-ltb 1048576 (width m) p.ways)))))))
 
   declared : IsDeclaration (module_of m)
   declared =

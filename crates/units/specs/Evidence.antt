@@ -3,18 +3,19 @@ use Rattle.std.specs.Prelude.{ℕ, ◌+◌, ◌-◌, ◌*◌, ◌/◌, ◌%◌, 
 use Rattle.model.specs.Meanings.{OutlineFacts, Meaning}
 use Rattle.model.specs.States.{value, is_state, takes, yields, nothing}
 use Rattle.model.specs.Tests.{every, lowest}
-use Rattle.model.specs.declared.Fault.{Fault}
 use Rattle.model.specs.declared.Round.{Round}
 use Rattle.model.specs.declared.Round.TheVariants.{Initial, Update}
 use Rattle.theory.specs.Enumerations.{below, pairs, ranges}
 use Rattle.units.specs.Counting.{total, any, same}
-use Rattle.units.specs.Sealing.{refusal, at_lowest, if_so, ◌else◌}
+use Rattle.units.specs.Sealing.{at_lowest, if_so, ◌else◌}
+use Rattle.units.specs.declared.refusal.Refusal.{Refusal}
+use Rattle.units.specs.declared.refusal.Refusal.TheVariants.{NotAState, FalseIn, TrueInLast, InitialStateMissing, NotInitial, SuccessorMissing, NotASuccessor}
 
 -- The states that bytes list: 32 bytes each.
 abbrev pub states_in : List ℕ → List (List ℕ)
 states_in bs = map (λ i. take 32 (drop (32 * i) bs)) (below (length bs / 32))
 
--- 23: the bytes are no whole states, or none, or more than 2,048
+-- the bytes are no whole states, or none, or more than 2,048
 abbrev pub wrong_size : List ℕ → Bool
 wrong_size bs = not (length bs % 32 == 0) || length bs == 0 || nat_lt 2048 (length bs / 32)
 
@@ -47,31 +48,27 @@ outcomes m r s = filter (led_by m r s) (pairs (all_states m.outline) (choice_row
 abbrev pub certificate_count : Meaning → List (List ℕ) → ℕ
 certificate_count m ss = length (outcomes m Initial nothing) + total (λ s. length (outcomes m Update s)) ss
 
--- 24: the lowest listed state that is no state of the module
-abbrev pub foreign_state : Meaning → List (List ℕ) → Option Fault
-foreign_state m ss = at_lowest 24 (lowest (λ i. not (is_state m.outline (state_at ss i))) (length ss))
+-- the lowest listed state that is no state of the module
+abbrev pub foreign_state : Meaning → List (List ℕ) → Option Refusal
+foreign_state m ss = at_lowest NotAState (lowest (λ i. not (is_state m.outline (state_at ss i))) (length ss))
 
 -- Why a list of states is no certificate for a test; the first reason counts.
-abbrev pub certificate_refusal : Meaning → (List ℕ → Bool) → List (List ℕ) → Option Fault
+abbrev pub certificate_refusal : Meaning → (List ℕ → Bool) → List (List ℕ) → Option Refusal
 certificate_refusal m holds ss =
     foreign_state m ss
-    else at_lowest 25 (lowest (λ i. not (holds (state_at ss i))) (length ss))
-    else if_so 26 (misses m ss Initial nothing)
-    else at_lowest 27 (lowest (λ i. misses m ss Update (state_at ss i)) (length ss))
+    else at_lowest FalseIn (lowest (λ i. not (holds (state_at ss i))) (length ss))
+    else if_so InitialStateMissing (misses m ss Initial nothing)
+    else at_lowest SuccessorMissing (lowest (λ i. misses m ss Update (state_at ss i)) (length ss))
 
 -- the place of the later one of two neighbours
 abbrev pub later : Option ℕ → Option ℕ
 later None = None
 later (Some i) = Some (i + 1)
 
-abbrev pub if_so_at : ℕ → ℕ → Bool → Option Fault
-if_so_at number place true = Some (refusal number place)
-if_so_at number place false = None
-
 -- Why a list of states is no run that breaks a test.
-abbrev pub run_refusal : Meaning → (List ℕ → Bool) → List (List ℕ) → Option Fault
+abbrev pub run_refusal : Meaning → (List ℕ → Bool) → List (List ℕ) → Option Refusal
 run_refusal m holds ss =
     foreign_state m ss
-    else if_so 26 (not (yields m Initial nothing (state_at ss 0)))
-    else at_lowest 27 (later (lowest (λ i. not (yields m Update (state_at ss i) (state_at ss (i + 1)))) (length ss - 1)))
-    else if_so_at 25 (length ss - 1) (holds (state_at ss (length ss - 1)))
+    else if_so NotInitial (not (yields m Initial nothing (state_at ss 0)))
+    else at_lowest NotASuccessor (later (lowest (λ i. not (yields m Update (state_at ss i) (state_at ss (i + 1)))) (length ss - 1)))
+    else if_so (TrueInLast (length ss - 1)) (holds (state_at ss (length ss - 1)))

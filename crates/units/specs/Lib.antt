@@ -3,6 +3,7 @@ pub mod Counting
 pub mod Evidence
 pub mod Life
 pub mod Promises
+pub mod Refusals
 pub mod Sealing
 pub mod Units
 pub mod Vet

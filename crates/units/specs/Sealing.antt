@@ -10,8 +10,10 @@ use Rattle.model.specs.declared.Round.{Round}
 use Rattle.model.specs.declared.Round.TheVariants.{Initial, Update}
 use Rattle.theory.specs.Enumerations.{below, pairs, ranges}
 use Rattle.units.specs.Counting.{product, any}
+use Rattle.units.specs.declared.refusal.Refusal.{Refusal}
+use Rattle.units.specs.declared.refusal.Refusal.TheVariants.{FaultyDrawing, NotOneController, AwaitsItself, SeesTooMuch, GetsStuck, LeavesRange, TooWide}
 
--- 12: a private or interface name that not exactly one atom controls
+-- a private or interface name that not exactly one atom controls
 
 abbrev pub owned : Option Kind → Bool
 owned None = false
@@ -25,7 +27,7 @@ controllers o n = count (λ a. o.controls a n) o.atoms
 abbrev pub badly_controlled : OutlineFacts → ℕ → Bool
 badly_controlled o n = owned (o.kind n) && not (controllers o n == 1)
 
--- 13: an atom that awaits itself, directly or through others
+-- an atom that awaits itself, directly or through others
 
 -- atom a awaits a name that atom b controls
 abbrev pub awaits_atom : OutlineFacts → ℕ → ℕ → Bool
@@ -40,7 +42,7 @@ awaits_through o (suc others) a b = awaits_atom o a b || some (λ c. awaits_atom
 abbrev pub circular : OutlineFacts → ℕ → Bool
 circular o a = awaits_through o o.atoms a a
 
--- 14: the values that an atom sees are more than 65,536; a name that it both reads and awaits counts twice
+-- the values that an atom sees are more than 65,536; a name that it both reads and awaits counts twice
 
 abbrev pub times_if : Bool → ℕ → ℕ
 times_if seen top = cond seen (top + 1) 1
@@ -51,7 +53,7 @@ sight o a = product (λ n. times_if (o.reads a n) (o.top n) * times_if (o.awaits
 abbrev pub sees_too_much : OutlineFacts → ℕ → Bool
 sees_too_much o a = nat_lt 65536 (sight o a)
 
--- 15: at some values in range of what it sees, an atom has no open choice
+-- at some values in range of what it sees, an atom has no open choice
 
 -- the rows of 32 values in range at the names of a set, and 0 elsewhere
 abbrev pub values_at : OutlineFacts → (ℕ → Bool) → List (List ℕ)
@@ -75,7 +77,7 @@ in_some_round m test a = any (test m Initial a) (sights m.outline Initial a) || 
 abbrev pub gets_stuck : Meaning → ℕ → Bool
 gets_stuck m a = in_some_round m nothing_open a
 
--- 16: at some, an open one gives a value outside 0 to top
+-- at some, an open one gives a value outside 0 to top
 
 abbrev pub within : ℕ → ℤ → Bool
 within top (pos x) = nat_le x top
@@ -88,7 +90,7 @@ gives_outside m r a seen =
 abbrev pub leaves_range : Meaning → ℕ → Bool
 leaves_range m a = in_some_round m gives_outside a
 
--- 17: the width, the product of the external names' values and of each atom's larger choice count, exceeds 1,048,576
+-- the width, the product of the external names' values and of each atom's larger choice count, exceeds 1,048,576
 
 abbrev pub is_external : Option Kind → Bool
 is_external None = false
@@ -105,32 +107,35 @@ too_wide m = nat_lt 1048576 (width m)
 
 -- The verdict: the first of these that applies, at the lowest name or atom; none when the drawing is fit.
 
-abbrev pub refusal : ℕ → ℕ → Fault
-refusal number place = record { number = number; layer = 0; place = place }
+-- the refusal that tells the place where something is wrong, if there is one
+abbrev pub at_lowest : (ℕ → Refusal) → Option ℕ → Option Refusal
+at_lowest told None = None
+at_lowest told (Some place) = Some (told place)
 
-abbrev pub at_lowest : ℕ → Option ℕ → Option Fault
-at_lowest number None = None
-at_lowest number (Some place) = Some (refusal number place)
+abbrev pub if_so : Refusal → Bool → Option Refusal
+if_so told true = Some told
+if_so told false = None
 
-abbrev pub if_so : ℕ → Bool → Option Fault
-if_so number true = Some (refusal number 0)
-if_so number false = None
+-- what is wrong with the drawing itself
+abbrev pub of_drawing : Option Fault → Option Refusal
+of_drawing None = None
+of_drawing (Some fault) = Some (FaultyDrawing fault)
 
 -- the first one, if it is there, else the second
 infixr 30 ◌else◌
-abbrev pub ◌else◌ : Option Fault → Option Fault → Option Fault
+abbrev pub ◌else◌ : Option Refusal → Option Refusal → Option Refusal
 None else g = g
 Some f else g = Some f
 
-abbrev pub verdict : Meaning → Option Fault
+abbrev pub verdict : Meaning → Option Refusal
 verdict m =
-    m.outline.fault
-    else at_lowest 12 (lowest (badly_controlled m.outline) 32)
-    else at_lowest 13 (lowest (circular m.outline) m.outline.atoms)
-    else at_lowest 14 (lowest (sees_too_much m.outline) m.outline.atoms)
-    else at_lowest 15 (lowest (gets_stuck m) m.outline.atoms)
-    else at_lowest 16 (lowest (leaves_range m) m.outline.atoms)
-    else if_so 17 (too_wide m)
+    of_drawing m.outline.fault
+    else at_lowest NotOneController (lowest (badly_controlled m.outline) 32)
+    else at_lowest AwaitsItself (lowest (circular m.outline) m.outline.atoms)
+    else at_lowest SeesTooMuch (lowest (sees_too_much m.outline) m.outline.atoms)
+    else at_lowest GetsStuck (lowest (gets_stuck m) m.outline.atoms)
+    else at_lowest LeavesRange (lowest (leaves_range m) m.outline.atoms)
+    else if_so TooWide (too_wide m)
 
 pub record Fit (m : Meaning) : Type 0 where
   pub fine : verdict m ≡ None

@@ -6,13 +6,14 @@ use Rattle.language.specs.Expressions.{Truth, Seen, Reading, good, bad, truth_va
 use Rattle.model.specs.Meanings.{Meaning, OutlineFacts}
 use Rattle.model.specs.States.{value, nothing}
 use Rattle.model.specs.Tests.{some, lowest, count}
-use Rattle.model.specs.declared.Fault.{Fault}
 use Rattle.model.specs.declared.Round.{Round}
 use Rattle.model.specs.declared.Round.TheVariants.{Initial, Update}
 use Rattle.theory.specs.Enumerations.{below}
 use Rattle.units.specs.Counting.{any}
 use Rattle.units.specs.Evidence.{states_in, wrong_size, certificate_refusal, certificate_count, run_refusal}
-use Rattle.units.specs.Sealing.{refusal, at_lowest, if_so, is_external, verdict, ◌else◌}
+use Rattle.units.specs.Sealing.{at_lowest, if_so, is_external, verdict, ◌else◌}
+use Rattle.units.specs.declared.refusal.Refusal.{Refusal}
+use Rattle.units.specs.declared.refusal.Refusal.TheVariants.{TooManyClaims, NotIdle, NoRoomForClaim, WrongClaim, NoSuchClaim, WrongSize, NotAllHeld, RoundOpen, WrongValue, WrongSlip, NoRoundLeft, NoAtomToFire, MustWait, ChoiceNotOpen, AtomsMissing}
 
 -- A claim is a truth about one state, whose values it sees as old ones, with the mark that evidence has given it.
 pub data Mark : Type 0 where
@@ -49,10 +50,10 @@ pub record Slip : Type 0 where
   pub unit : ℕ
   pub round : ℕ
 
--- an answer is a value, or a refusal with its number, layer and place
+-- an answer is a value, or a refusal
 pub data Answer (A : Type 0) : Type 0 where
   done : A → Answer A
-  refused : Fault → Answer A
+  refused : Refusal → Answer A
 
 -- what a call leaves, and what it answers
 pub record Outcome (A : Type 0) : Type 0 where
@@ -60,11 +61,11 @@ pub record Outcome (A : Type 0) : Type 0 where
   pub answer : Answer A
 
 -- refused, with the unit as given; or else this
-abbrev pub refused_or : {A : Type 0} → Option Fault → UnitModel → Outcome A → Outcome A
+abbrev pub refused_or : {A : Type 0} → Option Refusal → UnitModel → Outcome A → Outcome A
 refused_or None before o = o
 refused_or (Some f) before o = record { unit = before; answer = refused f }
 
-abbrev pub unless : {A : Type 0} → Option Fault → UnitModel → UnitModel → A → Outcome A
+abbrev pub unless : {A : Type 0} → Option Refusal → UnitModel → UnitModel → A → Outcome A
 unless f before after a = refused_or f before (record { unit = after; answer = done a })
 
 abbrev pub with_claims : UnitModel → List Claim → UnitModel
@@ -75,15 +76,15 @@ with_phase u p = record { meaning = u.meaning; number = u.number; rounds = u.rou
 
 -- Sealing
 
--- the verdict on a drawing with so many claims brought to it: 37 after all others, where there are more than eight
-abbrev pub verdict_with : Meaning → Bool → Option Fault
-verdict_with m crowded = verdict m else if_so 37 crowded
+-- the verdict on a drawing with so many claims brought to it: refused, after all others, where there are more than eight
+abbrev pub verdict_with : Meaning → Bool → Option Refusal
+verdict_with m crowded = verdict m else if_so TooManyClaims crowded
 
-abbrev pub verdict_of : UnitModel → Option Fault
+abbrev pub verdict_of : UnitModel → Option Refusal
 verdict_of u = verdict_with u.meaning u.crowded
 
 -- an unfit unit has no claims
-abbrev pub kept_claims : Option Fault → List Claim → List Claim
+abbrev pub kept_claims : Option Refusal → List Claim → List Claim
 kept_claims None cs = cs
 kept_claims (Some f) cs = []
 
@@ -143,9 +144,9 @@ abbrev pub read_wrong : {X : Type 0} → Reading X → Bool
 read_wrong (good x end) = false
 read_wrong (bad place) = true
 
-abbrev pub claim_refusal : UnitModel → List ℕ → Option Fault
+abbrev pub claim_refusal : UnitModel → List ℕ → Option Refusal
 claim_refusal u bs =
-    verdict_of u else if_so 19 (not (is_idle u.phase)) else if_so 20 (nat_le 8 (length u.claims)) else if_so 21 (read_wrong (claim_reading u.meaning bs))
+    verdict_of u else if_so NotIdle (not (is_idle u.phase)) else if_so NoRoomForClaim (nat_le 8 (length u.claims)) else if_so WrongClaim (read_wrong (claim_reading u.meaning bs))
 
 -- the claims with one more, which starts open
 abbrev pub claim_added : List Claim → Reading Truth → List Claim
@@ -163,22 +164,22 @@ marked_at i mark [] = []
 marked_at zero mark (c ∷ cs) = record { says = c.says; mark = mark } ∷ cs
 marked_at (suc i) mark (c ∷ cs) = c ∷ marked_at i mark cs
 
--- what is asked of the claim with this number; 22 where there is none
-abbrev pub of_claim : Option Claim → (Claim → Option Fault) → Option Fault
-of_claim None check = Some (refusal 22 0)
+-- what is asked of the claim with this number; refused where there is none
+abbrev pub of_claim : Option Claim → (Claim → Option Refusal) → Option Refusal
+of_claim None check = Some NoSuchClaim
 of_claim (Some c) check = check c
 
-abbrev pub certify_refusal : UnitModel → ℕ → List ℕ → Option Fault
+abbrev pub certify_refusal : UnitModel → ℕ → List ℕ → Option Refusal
 certify_refusal u i bs =
-    verdict_of u else of_claim (slice_get u.claims i) (λ c. if_so 23 (wrong_size bs) else certificate_refusal u.meaning (holds c) (states_in bs))
+    verdict_of u else of_claim (slice_get u.claims i) (λ c. if_so WrongSize (wrong_size bs) else certificate_refusal u.meaning (holds c) (states_in bs))
 
 -- an accepted certificate marks the claim held; the answer is the count
 abbrev pub certify : UnitModel → ℕ → List ℕ → Outcome ℕ
 certify u i bs = unless (certify_refusal u i bs) u (with_claims u (marked_at i held u.claims)) (certificate_count u.meaning (states_in bs))
 
-abbrev pub refute_refusal : UnitModel → ℕ → List ℕ → Option Fault
+abbrev pub refute_refusal : UnitModel → ℕ → List ℕ → Option Refusal
 refute_refusal u i bs =
-    verdict_of u else of_claim (slice_get u.claims i) (λ c. if_so 23 (wrong_size bs) else run_refusal u.meaning (holds c) (states_in bs))
+    verdict_of u else of_claim (slice_get u.claims i) (λ c. if_so WrongSize (wrong_size bs) else run_refusal u.meaning (holds c) (states_in bs))
 
 -- an accepted run marks the claim broken; the answer is its length
 abbrev pub refute : UnitModel → ℕ → List ℕ → Outcome ℕ
@@ -191,7 +192,7 @@ is_held open_mark = false
 is_held held = true
 is_held broken = false
 
--- 28: no claim, or one that is not held
+-- no claim, or one that is not held
 abbrev pub not_all_held : List Claim → Bool
 not_all_held [] = true
 not_all_held (c ∷ cs) = any (λ d. not (is_held d.mark)) (c ∷ cs)
@@ -201,17 +202,17 @@ round_open idle = false
 round_open (standing s) = false
 round_open (in_round before new fired) = true
 
--- 30: a value above its top at an external name, or not 0 at any other
+-- a value above its top at an external name, or not 0 at any other
 abbrev pub wrong_value : OutlineFacts → List ℕ → ℕ → Bool
 wrong_value o given n = nat_lt (cond (is_external (o.kind n)) (o.top n) 0) (value given n)
 
-abbrev pub open_refusal : UnitModel → List ℕ → Option Fault
+abbrev pub open_refusal : UnitModel → List ℕ → Option Refusal
 open_refusal u given =
     verdict_of u
-    else if_so 28 (not_all_held u.claims)
-    else if_so 29 (round_open u.phase)
-    else at_lowest 30 (lowest (wrong_value u.meaning.outline given) 32)
-    else if_so 32 (u.rounds == 4294967295)
+    else if_so NotAllHeld (not_all_held u.claims)
+    else if_so RoundOpen (round_open u.phase)
+    else at_lowest WrongValue (lowest (wrong_value u.meaning.outline given) 32)
+    else if_so NoRoundLeft (u.rounds == 4294967295)
 
 -- the state that stands
 abbrev pub stands : Phase → Option (List ℕ)
@@ -234,7 +235,7 @@ round_begun u given = record {
 abbrev pub open_round : UnitModel → List ℕ → Outcome Slip
 open_round u given = unless (open_refusal u given) u (round_begun u given) (record { unit = u.number; round = u.rounds + 1 })
 
--- 31: it is not the slip of the round that is open
+-- it is not the slip of the round that is open
 abbrev pub wrong_slip : UnitModel → Slip → Bool
 wrong_slip u slip = not (round_open u.phase && slip.unit == u.number && slip.round == u.rounds)
 
@@ -249,20 +250,20 @@ old_state (Some s) = s
 abbrev pub has_fired : List Bool → ℕ → Bool
 has_fired fired a = slice_index_or fired a false
 
--- 34: it awaits a name whose atom has not fired
+-- it awaits a name whose atom has not fired
 abbrev pub must_wait : OutlineFacts → List Bool → ℕ → Bool
 must_wait o fired a = some (λ n. o.awaits a n && some (λ b. o.controls b n && not (has_fired fired b)) o.atoms) 32
 
-abbrev pub fire_refusal_in : Meaning → Phase → ℕ → ℕ → Option Fault
+abbrev pub fire_refusal_in : Meaning → Phase → ℕ → ℕ → Option Refusal
 fire_refusal_in m idle a k = None
 fire_refusal_in m (standing s) a k = None
 fire_refusal_in m (in_round before new fired) a k =
-    if_so 33 (not (nat_lt a m.outline.atoms) || has_fired fired a)
-    else if_so 34 (must_wait m.outline fired a)
-    else if_so 35 (not (m.acts.opens (kind_of_round before) a k (value (old_state before)) (value new)))
+    if_so NoAtomToFire (not (nat_lt a m.outline.atoms) || has_fired fired a)
+    else if_so MustWait (must_wait m.outline fired a)
+    else if_so ChoiceNotOpen (not (m.acts.opens (kind_of_round before) a k (value (old_state before)) (value new)))
 
-abbrev pub fire_refusal : UnitModel → Slip → ℕ → ℕ → Option Fault
-fire_refusal u slip a k = verdict_of u else if_so 31 (wrong_slip u slip) else fire_refusal_in u.meaning u.phase a k
+abbrev pub fire_refusal : UnitModel → Slip → ℕ → ℕ → Option Refusal
+fire_refusal u slip a k = verdict_of u else if_so WrongSlip (wrong_slip u slip) else fire_refusal_in u.meaning u.phase a k
 
 -- a number in range, as a value
 abbrev pub as_value : ℤ → ℕ
@@ -305,14 +306,14 @@ ended idle = idle
 ended (standing s) = standing s
 ended (in_round before new fired) = standing new
 
--- 36: atoms are missing. This refusal withdraws the round.
+-- atoms are missing. This refusal withdraws the round.
 abbrev pub end_if : Bool → UnitModel → Outcome ℕ
 end_if true u = record { unit = with_phase u (ended u.phase); answer = done 0 }
-end_if false u = record { unit = with_phase u (withdrawn u.phase); answer = refused (refusal 36 0) }
+end_if false u = record { unit = with_phase u (withdrawn u.phase); answer = refused AtomsMissing }
 
 -- end uses up the slip, refused or not
 abbrev pub end_round : UnitModel → Slip → Outcome ℕ
-end_round u slip = refused_or (verdict_of u else if_so 31 (wrong_slip u slip)) u (end_if (yet_to_fire u.meaning u.phase == 0) u)
+end_round u slip = refused_or (verdict_of u else if_so WrongSlip (wrong_slip u slip)) u (end_if (yet_to_fire u.meaning u.phase == 0) u)
 
 -- stop withdraws any round and lets no state stand
 abbrev pub stop : UnitModel → Outcome ℕ

@@ -1,11 +1,12 @@
 -- The boot entry: a table, a claim and states, to one number.
 use Rattle.std.specs.Prelude.{ℕ, List}
 use Rattle.language.specs.TableLaws.{table_meaning}
+use Rattle.units.specs.Refusals.{refusal_fault}
 use Rattle.units.specs.Units.{Answer, done, refused, seal, claim, certify}
 
 abbrev pub first_refusal : Answer ℕ → Answer ℕ → ℕ
-first_refusal (refused f) a = f.number
-first_refusal (done x) (refused f) = f.number
+first_refusal (refused r) a = (refusal_fault r).number
+first_refusal (done x) (refused r) = (refusal_fault r).number
 first_refusal (done x) (done y) = 0
 
 -- The table is opened and sealed, the claim made and certified by the states; the answer is the number of the first

@@ -4,6 +4,10 @@
 
 ghost use Rattle.units.specs.Promises.{CertificatesAreJudgedRightly, RunsAreJudgedRightly, AcceptedCertificatesHold, AcceptedRunsBreak, EvidenceExistsForEveryTest, TheCountIsUnique, ChoicesDependOnWhatTheySee};
 
+mod refusal;
+
+pub use refusal::Refusal;
+
 pub fn certificates_are_judged_rightly()
     ensures { CertificatesAreJudgedRightly }
 {}
