@@ -1,3 +1,12 @@
+pub mod Beginnings
+pub mod Calls
+pub mod Claims
 pub mod Evidence
+pub mod Fitness
+pub mod FoundEvidence
 pub mod Listed
+pub mod Lives
+pub mod Outcomes
+pub mod Rounds
 pub mod Theory
+pub mod Written

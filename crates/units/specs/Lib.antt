@@ -4,6 +4,7 @@ pub mod Evidence
 pub mod Life
 pub mod Promises
 pub mod Refusals
+pub mod Rounds
 pub mod Sealing
 pub mod Units
 pub mod Vet

@@ -1,8 +1,9 @@
-//! What units are and what they promise: definitions and their theory. Each function here does nothing, and exists so that
-//! its contract names a theorem: the gate then asks for the proof.
+//! What units are and what they promise: definitions and their theory; and what calls on units refuse. Each function of this file
+//! does nothing, and exists so that its contract names a theorem: the gate then asks for the proof.
 #![tactic(auto)]
 
-ghost use Rattle.units.specs.Promises.{CertificatesAreJudgedRightly, RunsAreJudgedRightly, AcceptedCertificatesHold, AcceptedRunsBreak, EvidenceExistsForEveryTest, TheCountIsUnique, ChoicesDependOnWhatTheySee};
+ghost use Rattle.units.specs.Promises.{CertificatesAreJudgedRightly, RunsAreJudgedRightly, AcceptedCertificatesHold, AcceptedRunsBreak, EvidenceExistsForEveryTest, TheCountIsUnique, ChoicesDependOnWhatTheySee, EveryUnitFromTheSiteIsSound};
+ghost use Rattle.units.specs.Rounds.{RoundsEndOnlyInOutcomes, RoundsReachEveryOutcome};
 
 mod refusal;
 
@@ -34,4 +35,16 @@ pub fn the_count_is_unique()
 
 pub fn choices_depend_on_what_they_see()
     ensures { ChoicesDependOnWhatTheySee }
+{}
+
+pub fn every_unit_from_the_site_is_sound()
+    ensures { EveryUnitFromTheSiteIsSound }
+{}
+
+pub fn rounds_end_only_in_outcomes()
+    ensures { RoundsEndOnlyInOutcomes }
+{}
+
+pub fn rounds_reach_every_outcome()
+    ensures { RoundsReachEveryOutcome }
 {}

@@ -18,12 +18,12 @@ use Rattle.units.specs.Sealing.{owned, is_external, at_lowest, if_so, verdict, â
 use Rattle.units.specs.Units.{Phase, idle, standing, in_round, UnitModel, Slip, done, Outcome, refused_or, unless, verdict_of, not_all_held, round_open, wrong_value, stands, wrong_slip, kind_of_round, old_state, has_fired, must_wait, fire_refusal_in, as_value, values_made, yet_to_fire, ended, end_if, open_round, fire, end_round}
 use Rattle.units.specs.declared.refusal.Refusal.TheVariants.{ChoiceNotOpen, MustWait, NoAtomToFire, NoRoundLeft, NotAllHeld, RoundOpen, WrongSlip, WrongValue}
 use Rattle.units.proofs.Evidence.{else_parts, else_from, if_so_parts}
-use Rattle.life.specs.Promises.{Accepted, Follows, EndedInOutcome, RoundsEndOnlyInOutcomes, after_fires, FiresAccepted, next_slip, RoundsReachEveryOutcome}
-use Rattle.life.proofs.Beginnings.{Ready, next}
-use Rattle.life.proofs.Calls.{PhaseRight}
-use Rattle.life.proofs.Fitness.{Keeps, keeps, length_row, row_at}
-use Rattle.life.proofs.Lives.{came_good}
-use Rattle.life.proofs.Rounds.{waited, fired_other, one_less, outcome}
+use Rattle.units.specs.Rounds.{Accepted, Follows, EndedInOutcome, RoundsEndOnlyInOutcomes, after_fires, FiresAccepted, next_slip, RoundsReachEveryOutcome}
+use Rattle.units.proofs.Beginnings.{Ready, next}
+use Rattle.units.proofs.Calls.{PhaseRight}
+use Rattle.units.proofs.Fitness.{Keeps, keeps, length_row, row_at}
+use Rattle.units.proofs.Lives.{came_good}
+use Rattle.units.proofs.Rounds.{waited, fired_other, one_less, outcome}
 use Rattle.model.proofs.Counted.{some_counted, none_counted}
 
 -- rounds end in outcomes

@@ -11,7 +11,7 @@ use Rattle.model.proofs.Marks.{unmarked}
 use Rattle.model.proofs.States.{StateOf, state_parts, state_from, takes_parts, takes_from, yields_from}
 use Rattle.units.specs.Sealing.{is_external}
 use Rattle.units.specs.Units.{wrong_value, kind_of_round, old_state, has_fired, must_wait, as_value, values_made}
-use Rattle.life.proofs.Fitness.{InRange, Keeps, length_row, row_at}
+use Rattle.units.proofs.Fitness.{InRange, Keeps, length_row, row_at}
 use Rattle.model.proofs.Counted.{some_clear, none_counted, fewer}
 
 -- The values given and made are a state of the module, each atom that has fired took a choice that leads there, and

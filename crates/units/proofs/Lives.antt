@@ -5,9 +5,9 @@ use Rattle.model.specs.Meanings.{Meaning}
 use Rattle.units.specs.Promises.{Sound, EveryUnitFromTheSiteIsSound}
 use Rattle.units.specs.Units.{UnitModel, Claim, Phase, idle, standing, in_round, stands}
 use Rattle.units.specs.Life.{Came, by_seal, by_claim, by_certify, by_refute, by_open, by_fire, by_end, by_stop, by_rename, by_hide, by_join}
-use Rattle.life.proofs.Calls.{ReachedBefore, PhaseRight, Good, seal_good, claim_good, certify_good, refute_good, open_good, fire_good, end_good, stop_good, rename_good, hide_good, join_good}
-use Rattle.life.proofs.Claims.{HoldsThroughout, Right, all_nth}
-use Rattle.life.proofs.Evidence.{evidence_had}
+use Rattle.units.proofs.Calls.{ReachedBefore, PhaseRight, Good, seal_good, claim_good, certify_good, refute_good, open_good, fire_good, end_good, stop_good, rename_good, hide_good, join_good}
+use Rattle.units.proofs.Claims.{HoldsThroughout, Right, all_nth}
+use Rattle.units.proofs.FoundEvidence.{evidence_had}
 
 pub came_good : {u : UnitModel} → Came u → Good u
 came_good (by_seal m number) = seal_good m number

@@ -14,9 +14,9 @@ use Rattle.units.specs.Units.{UnitModel, Claim, holds, verdict_of, of_claim}
 use Rattle.units.specs.declared.refusal.Refusal.TheVariants.{WrongSize}
 use Rattle.units.proofs.Evidence.{else_parts, else_from}
 use Rattle.units.proofs.Theory.{reached_state, certificates_hold, evidence_exists, runs_judged}
-use Rattle.life.proofs.Beginnings.{some_initial_state}
-use Rattle.life.proofs.Calls.{yielded_reachable, asked}
-use Rattle.life.proofs.Written.{bytes_of, Long, length_bytes, states_back, right_size}
+use Rattle.units.proofs.Beginnings.{some_initial_state}
+use Rattle.units.proofs.Calls.{yielded_reachable, asked}
+use Rattle.units.proofs.Written.{bytes_of, Long, length_bytes, states_back, right_size}
 
 all_members : {X : Type 0} (P : X → Type 0) (xs : List X) → ((x : X) → Member x xs → P x) → All P xs
 all_members P [] f = tt

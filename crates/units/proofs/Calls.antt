@@ -23,9 +23,9 @@ use Rattle.units.specs.Units.{Claim, Mark, open_mark, held, broken, Phase, idle,
 use Rattle.units.specs.declared.refusal.Refusal.TheVariants.{ChoiceNotOpen, MustWait, NoAtomToFire, NotAllHeld, NotIdle, RoundOpen, WrongSize, WrongSlip, WrongValue}
 use Rattle.units.proofs.Evidence.{else_parts, at_lowest_parts, if_so_parts}
 use Rattle.units.proofs.Theory.{reached_state, certificates_hold, runs_break}
-use Rattle.life.proofs.Claims.{HoldsThroughout, Right, open_is_true, held_is_true, broken_is_true, all_marked, renamed_right, hidden_right, left_right, right_right}
-use Rattle.life.proofs.Fitness.{InRange, Keeps, keeps, fault_clear}
-use Rattle.life.proofs.Rounds.{Midway, begins, fires, outcome}
+use Rattle.units.proofs.Claims.{HoldsThroughout, Right, open_is_true, held_is_true, broken_is_true, all_marked, renamed_right, hidden_right, left_right, right_right}
+use Rattle.units.proofs.Fitness.{InRange, Keeps, keeps, fault_clear}
+use Rattle.units.proofs.Rounds.{Midway, begins, fires, outcome}
 
 -- the state that stood, if any, is reachable
 abbrev pub ReachedBefore : Meaning → Option (List ℕ) → Type 0

@@ -15,9 +15,9 @@ use Rattle.theory.proofs.Enumerations.{below_exact, length_below}
 use Rattle.theory.proofs.Members.{pigeonhole}
 use Rattle.units.specs.Sealing.{awaits_atom, awaits_through, is_external, verdict}
 use Rattle.units.specs.Units.{wrong_value, kind_of_round, old_state, has_fired, must_wait, values_made}
-use Rattle.life.proofs.Calls.{old_in_range, zeros}
-use Rattle.life.proofs.Fitness.{InRange, Keeps, keeps}
-use Rattle.life.proofs.Rounds.{Midway, begins, one_less, fires, all_fired}
+use Rattle.units.proofs.Calls.{old_in_range, zeros}
+use Rattle.units.proofs.Fitness.{InRange, Keeps, keeps}
+use Rattle.units.proofs.Rounds.{Midway, begins, one_less, fires, all_fired}
 use Rattle.model.proofs.Counted.{some_clear, none_counted}
 
 -- chains of atoms, each of which awaits the next

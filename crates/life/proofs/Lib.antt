@@ -1,9 +1,0 @@
-pub mod Beginnings
-pub mod Calls
-pub mod Claims
-pub mod Evidence
-pub mod Fitness
-pub mod Lives
-pub mod Outcomes
-pub mod Rounds
-pub mod Written

@@ -1,5 +1,0 @@
-use Rattle.life.proofs.Lives.{every_unit_sound}
-use Rattle.life.proofs.every_unit_from_the_site_is_sound.Goals as goal
-
-pub returns : goal.returns
-returns c = every_unit_sound
