@@ -4,5 +4,6 @@ pub mod Filled
 pub mod Found
 pub mod Gathered
 pub mod Lowest
-pub mod Marks
+pub mod Unmarked
+pub mod Meanings
 pub mod States

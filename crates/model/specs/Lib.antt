@@ -5,5 +5,6 @@ pub mod Meanings
 pub mod Rounds
 pub mod Rows
 pub mod Sets
+pub mod Statements
 pub mod States
 pub mod Tests

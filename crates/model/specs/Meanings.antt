@@ -4,7 +4,8 @@ use Rattle.model.specs.declared.Fault.{Fault}
 use Rattle.model.specs.declared.Kind.{Kind}
 use Rattle.model.specs.declared.Kind.TheVariants.{External}
 use Rattle.model.specs.declared.Round.{Round}
-use Rattle.model.specs.declared.Round.TheVariants.{Update}
+use Rattle.model.specs.declared.Round.TheVariants.{Initial, Update}
+use Rattle.model.specs.Tests.{some}
 
 -- a value for each name
 abbrev pub Valuation : Type 0
@@ -44,7 +45,7 @@ pub record OutlineLaws (o : OutlineFacts) : Type 0 where
   pub reads_known : (a n : ℕ) → o.reads a n ≡ true → (a < o.atoms) × (is_some (o.kind n) ≡ true)
   pub awaits_known : (a n : ℕ) → o.awaits a n ≡ true → (a < o.atoms) × (is_some (o.kind n) ≡ true)
   -- controlled sets are not empty and hold no external name
-  pub controls_some : (a : ℕ) → a < o.atoms → (n : ℕ) × (o.controls a n ≡ true)
+  pub controls_some : (a : ℕ) → a < o.atoms → some (o.controls a) 32 ≡ true
   pub controls_own : (a n : ℕ) → o.controls a n ≡ true → o.kind n ≢ Some External
   -- a fault has a number, and leaves no variables and no atoms
   pub fault_numbered : (f : Fault) → o.fault ≡ Some f → 1 ≤ f.number
@@ -57,6 +58,11 @@ pub record ChoiceFacts : Type 0 where
   pub opens : Round → ℕ → ℕ → Valuation → Valuation → Bool
   pub gives : Round → ℕ → ℕ → ℕ → Valuation → Valuation → ℤ
 
+-- how many choices an atom may have in a round of this kind
+abbrev pub most_choices : Round → ℕ
+most_choices Initial = 8
+most_choices Update = 8
+
 -- Two pairs of old and new values look alike to atom a: the new ones agree at the names that it awaits
 -- and, in an update, the old ones at those that it reads.
 pub record Alike (o : OutlineFacts) (r : Round) (a : ℕ) (old new old' new' : Valuation) : Type 0 where
@@ -64,9 +70,9 @@ pub record Alike (o : OutlineFacts) (r : Round) (a : ℕ) (old new old' new' : V
   pub read : r ≡ Update → (n : ℕ) → o.reads a n ≡ true → old n ≡ old' n
 
 pub record ChoiceLaws (o : OutlineFacts) (c : ChoiceFacts) : Type 0 where
-  -- each atom that is there has 1 to 8 choices, any other none
+  -- each atom that is there has a choice and not more than it may, any other none
   pub some_choice : (r : Round) (a : ℕ) → a < o.atoms → 1 ≤ c.choices r a
-  pub few_choices : (r : Round) (a : ℕ) → c.choices r a ≤ 8
+  pub few_choices : (r : Round) (a : ℕ) → c.choices r a ≤ most_choices r
   pub no_choice : (r : Round) (a : ℕ) → o.atoms ≤ a → c.choices r a ≡ 0
   -- a choice that is not there is closed, and it, or one asked for a name that its atom does not control, gives 0
   pub absent_closed : (r : Round) (a k : ℕ) (old new : Valuation) → c.choices r a ≤ k → c.opens r a k old new ≡ false

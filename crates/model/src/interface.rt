@@ -46,15 +46,18 @@ pub trait Drawing: Outline {
 
     /// How many choices the atom has in such a round.
     fn choices(&self, round: Round, atom: u8) -> u8
-        ensures { result ≡ (meaning self.now).acts.choices round atom };
+        ensures answer { result ≡ (meaning self.now).acts.choices round atom }
+        ensures agrees { (meaning self.now).outline ≡ Self.Outline.outline self.now };
 
     /// Is the choice open at these old and new values?
     fn is_open(&self, round: Round, atom: u8, choice: u8, old: State, new: State) -> bool
-        ensures { result ≡ (meaning self.now).acts.opens round atom choice (value old) (value new) };
+        ensures answer { result ≡ (meaning self.now).acts.opens round atom choice (value old) (value new) }
+        ensures agrees { (meaning self.now).outline ≡ Self.Outline.outline self.now };
 
     /// What the choice gives to a name that its atom controls.
     fn gives(&self, round: Round, atom: u8, choice: u8, name: u8, old: State, new: State) -> i16
-        ensures { result ≡ (meaning self.now).acts.gives round atom choice name (value old) (value new) };
+        ensures answer { result ≡ (meaning self.now).acts.gives round atom choice name (value old) (value new) }
+        ensures agrees { (meaning self.now).outline ≡ Self.Outline.outline self.now };
 
     ghost agree: { (d : Self) → (meaning d).outline ≡ Self.Outline.outline d };
 }

@@ -1,8 +1,8 @@
 //! Kinds of variables as numbers and as words, and rounds as words and from them.
-ghost use Rattle.std.specs.Prelude.{◌≡◌};
+ghost use Rattle.std.specs.Prelude.{◌≡◌, Some, codes};
 ghost use Rattle.std.specs.Result.{result_ok};
-ghost use Rattle.model.specs.Kinds.{kind_number, Decodes};
-ghost use Rattle.model.specs.Rounds.{round_named};
+ghost use Rattle.model.specs.Kinds.{kind_number, kind_word, unknown_kind_text, Decodes};
+ghost use Rattle.model.specs.Rounds.{round_word, round_named};
 
 use crate::{Kind, Round};
 use std::error::Error;
@@ -41,6 +41,8 @@ impl TryFrom<u8> for Kind {
 }
 
 impl fmt::Display for Kind {
+    ghost output = { λ kind. Some (kind_word kind) };
+
     fn fmt<W: fmt::Write>(&self, f: &mut fmt::Formatter<W>) -> fmt::Result {
         f.write_str(match self {
             Kind::Private => "private",
@@ -51,6 +53,8 @@ impl fmt::Display for Kind {
 }
 
 impl fmt::Display for UnknownKind {
+    ghost output = { λ unknown. Some (unknown_kind_text unknown) };
+
     fn fmt<W: fmt::Write>(&self, f: &mut fmt::Formatter<W>) -> fmt::Result {
         write!(f, "no kind of variable has the number {}", self.0)
     }
@@ -59,6 +63,8 @@ impl fmt::Display for UnknownKind {
 impl Error for UnknownKind {}
 
 impl fmt::Display for Round {
+    ghost output = { λ round. Some (round_word round) };
+
     fn fmt<W: fmt::Write>(&self, f: &mut fmt::Formatter<W>) -> fmt::Result {
         f.write_str(match self {
             Round::Initial => "init",
@@ -82,6 +88,8 @@ impl FromStr for Round {
 }
 
 impl fmt::Display for UnknownRound {
+    ghost output = { λ _. Some (codes "no round has this name") };
+
     fn fmt<W: fmt::Write>(&self, f: &mut fmt::Formatter<W>) -> fmt::Result {
         f.write_str("no round has this name")
     }

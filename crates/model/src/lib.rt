@@ -11,13 +11,16 @@ mod faults;
 mod interface;
 mod kinds;
 mod names;
+mod promises;
 mod row;
 
 pub use below::{all_below, any_below, count_below, lowest_below};
 pub use exchange::exchanged;
+pub use faults::fault_numbers;
 pub use interface::{Drawing, Outline};
 pub use kinds::{UnknownKind, UnknownRound};
-pub use names::{Members, Names};
+pub use names::{Atoms, Marks, Members, Names};
+pub use promises::meanings_are_outlines_and_choices;
 pub use row::{Full, Row};
 
 /// How a module's variable is controlled and seen: by the module alone, by the module for all to see,

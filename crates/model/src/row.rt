@@ -5,13 +5,15 @@ use std::alloc::AllocError;
 use std::error::Error;
 use std::fmt;
 
-mod methods;
-
 /// There is no room for another item.
 #[derive(Clone, Copy, PartialEq, Eq, Debug)]
 pub struct Full;
 
 impl fmt::Display for Full {
+    ghost use Rattle.std.specs.Prelude.{Some, codes};
+
+    ghost output = { λ _. Some (codes "there is no room for another item") };
+
     fn fmt<W: fmt::Write>(&self, f: &mut fmt::Formatter<W>) -> fmt::Result {
         f.write_str("there is no room for another item")
     }
@@ -28,7 +30,7 @@ pub struct Row<T, const N: usize> {
     ghost few: { count ≤ N },
 }
 
-// By hand: tried, and `Clone` cannot be derived where a type has ghost fields and a parameter.
+// By hand: `Clone` cannot be derived where a type has ghost fields and a parameter.
 impl<T: Copy, const N: usize> Clone for Row<T, N> {
     ghost is_clone = { λ row copy. copy ≡ row };
 
@@ -40,3 +42,52 @@ impl<T: Copy, const N: usize> Clone for Row<T, N> {
 }
 
 impl<T: Copy, const N: usize> Copy for Row<T, N> {}
+
+impl<T: Copy, const N: usize> Row<T, N> {
+    ghost use Rattle.std.specs.Prelude.{◌≡◌, ◌≤◌, [], length};
+    ghost use Rattle.model.specs.Rows.{listed, Filled, Pushed};
+
+    /// No items. The blank fills the places that none takes.
+    pub fn empty(blank: T) -> Row<T, N>
+        ensures { listed result ≡ [] }
+    {
+        Row {
+            items: [blank; N],
+            count: 0,
+        }
+    }
+
+    /// These items, if there is room for them. The blank fills the places that none takes.
+    pub fn from_slice(items: &[T], blank: T) -> Result<Row<T, N>, Full>
+        ensures { Filled items.now result }
+    {
+        if items.len() > N {
+            return Err(Full);
+        }
+        let mut row = [blank; N];
+        row[..items.len()].copy_from_slice(items);
+        Ok(Row {
+            items: row,
+            count: items.len(),
+        })
+    }
+
+    /// Adds an item at the end, if there is room.
+    pub fn push(&mut self, item: T) -> Result<(), Full>
+        ensures { Pushed N (listed self.old) item (listed self.new) result }
+    {
+        if self.count == N {
+            return Err(Full);
+        }
+        self.items[self.count] = item;
+        self.count += 1;
+        Ok(())
+    }
+
+    pub fn as_slice(&self) -> &[T]
+        ensures listed { result.now ≡ listed self.now }
+        ensures few { length result.now ≤ N }
+    {
+        &self.items[..self.count]
+    }
+}
