@@ -3,12 +3,12 @@ use Rattle.std.specs.Prelude.{◌≡◌, ℕ, zero, suc, Bool, false, Some, None
 use Rattle.model.specs.Meanings.{OutlineFacts}
 use Rattle.model.specs.Sets.{has}
 use Rattle.model.specs.Tests.{some}
-use Rattle.model.specs.declared.names.Names.{Names}
+use Rattle.model.specs.Sets.{NameSet}
 use Rattle.units.specs.Sealing.{awaits_atom}
 use Rattle.fitness.specs.declared.table.Table.{Table}
 
 -- is the atom in the set, where there is one
-abbrev pub has_in : Option Names → ℕ → Bool
+abbrev pub has_in : Option NameSet → ℕ → Bool
 has_in None b = false
 has_in (Some s) b = has s b
 
@@ -17,7 +17,7 @@ abbrev pub direct : Table → ℕ → ℕ → Bool
 direct t a b = nat_lt a 16 && nat_lt b 16 && has_in (slice_get t.awaited a) b
 
 -- the set of those that an atom awaits is right for each number that can be in a set
-abbrev pub Awaited : OutlineFacts → ℕ → Names → Type 0
+abbrev pub Awaited : OutlineFacts → ℕ → NameSet → Type 0
 Awaited o a awaited = (b : ℕ) → has awaited b ≡ (nat_lt b 32 && awaits_atom o a b)
 
 -- the atom awaits the other one, which is behind

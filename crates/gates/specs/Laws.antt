@@ -7,8 +7,10 @@ use Rattle.std.proofs.lemmas.Bool.Decides.{nat_tests}
 use Rattle.std.proofs.lemmas.Bool.{and_from, and_parts, or_left, or_right, or_cases, eq-eqb, cond-false, both_ways, le-leb}
 use Rattle.std.proofs.lemmas.Option.{slice_get_past}
 use Rattle.std.specs.List.{slice_get}
-use Rattle.model.specs.Meanings.{Valuation, Bytes, OutlineLaws, ChoiceLaws, Meaning}
+use Rattle.model.specs.Meanings.{Valuation, Bytes, OutlineLaws, ChoiceLaws, Meaning, most_choices}
 use Rattle.model.specs.Sets.{is_name}
+use Rattle.model.specs.Tests.{some}
+use Rattle.model.proofs.Bounded.{some_at}
 use Rattle.model.specs.declared.Fault.{Fault}
 use Rattle.model.specs.declared.Kind.{Kind}
 use Rattle.model.specs.declared.Kind.TheVariants.{External}
@@ -77,6 +79,12 @@ controls_target (Inverter a out) s = is_same out (and_parts (nat_lt a 32) (nat_l
 controls_target (Conjunction a b out) s = is_same out (and_parts (nat_lt a 32 && nat_lt b 32) (nat_lt out 32) s).1
 controls_target (LatchOutput out own) s = is_same out (and_parts (nat_lt out 32) (nat_lt own 32) s).0
 controls_target (LatchStore set reset own) s = is_same own (and_parts (nat_lt set 32 && nat_lt reset 32) (nat_lt own 32) s).1
+
+target_small : (p : Part) → small p ≡ true → target p < 32
+target_small (Inverter a out) s = grind (arith, nat_tests)
+target_small (Conjunction a b out) s = grind (arith, nat_tests)
+target_small (LatchOutput out own) s = grind (arith, nat_tests)
+target_small (LatchStore set reset own) s = grind (arith, nat_tests)
 
 -- what is used in a list
 
@@ -155,12 +163,15 @@ some_choice Initial (LatchOutput out own) = omega arith
 some_choice Update (LatchOutput out own) = omega arith
 some_choice r (LatchStore set reset own) = omega arith
 
-few_choices : (r : Round) (p : Part) → choices_of r p ≤ 8
-few_choices r (Inverter a out) = omega arith
-few_choices r (Conjunction a b out) = omega arith
+few_choices : (r : Round) (p : Part) → choices_of r p ≤ most_choices r
+few_choices Initial (Inverter a out) = omega arith
+few_choices Update (Inverter a out) = omega arith
+few_choices Initial (Conjunction a b out) = omega arith
+few_choices Update (Conjunction a b out) = omega arith
 few_choices Initial (LatchOutput out own) = omega arith
 few_choices Update (LatchOutput out own) = omega arith
-few_choices r (LatchStore set reset own) = omega arith
+few_choices Initial (LatchStore set reset own) = omega arith
+few_choices Update (LatchStore set reset own) = omega arith
 
 absent_closed : (r : Round) (p : Part) (k : ℕ) (new : Valuation) → choices_of r p ≤ k → opens_of r p k new ≡ false
 absent_closed r (Inverter a out) k new h = grind (arith, nat_tests)
@@ -292,7 +303,7 @@ module _ (l : Opened) (few : length l.parts ≤ 16) (tight : all_small l.parts �
         (k.inside, known a n Input k.part k.there (awaits_uses k.part n k.holds));
     controls_some = λ a h.
         let k = nth_some ps a h in
-        (target k.0, ap (told (λ p. controls_of p (target k.0)) false) k.1 ∙ controls_target k.0 (small_nth ps a k.0 tight k.1));
+        ap (λ o. some (λ n. told (λ p. controls_of p n) false o) 32) k.1 ∙ some_at (controls_of k.0) 32 (target k.0) (target_small k.0 (small_nth ps a k.0 tight k.1)) (controls_target k.0 (small_nth ps a k.0 tight k.1));
     controls_own = λ a n h.
         let k = asked ps a (λ p. controls_of p n) h in
         not_external (used Out ps n) (used Own ps n) (used Input ps n) (⊎_elim (λ u. inl (used_nth Out ps a n k.part k.there u)) (λ u. inr (used_nth Own ps a n k.part k.there u)) (controls_owned k.part n k.holds));
@@ -309,7 +320,7 @@ module _ (l : Opened) (few : length l.parts ≤ 16) (tight : all_small l.parts �
   pub choice_laws : ChoiceLaws (list_outline l) (list_acts l)
   choice_laws = record {
     some_choice = λ r a h. of_some a r h;
-    few_choices = λ r a. by_part ps a (λ o. told (choices_of r) 0 o ≤ 8) (omega arith) (λ p e. few_choices r p);
+    few_choices = λ r a. by_part ps a (λ o. told (choices_of r) 0 o ≤ most_choices r) (omega arith) (λ p e. few_choices r p);
     no_choice = λ r a h. ap (told (choices_of r) 0) (slice_get_past ps a h);
     absent_closed = λ r a k old new.
         by_part ps a (λ o. told (choices_of r) 0 o ≤ k → told (λ p. opens_of r p k new) false o ≡ false) (λ h. refl) (λ p e h. absent_closed r p k new h);

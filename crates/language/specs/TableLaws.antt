@@ -6,8 +6,8 @@ use Rattle.std.proofs.lemmas.Int.{ints}
 use Rattle.std.proofs.lemmas.Option.{slice_get_past}
 use Rattle.std.proofs.lemmas.Bool.{and_parts, eqb-true, both_ways, false≢true, cases_lt}
 use Rattle.std.specs.List.{AllByRecursion, slice_get}
-use Rattle.model.proofs.Bounded.{every_decides, some_decides}
-use Rattle.model.specs.Meanings.{Valuation, Bytes, OutlineLaws, ChoiceLaws, Alike, Meaning}
+use Rattle.model.proofs.Bounded.{every_decides}
+use Rattle.model.specs.Meanings.{Valuation, Bytes, OutlineLaws, ChoiceLaws, Alike, Meaning, most_choices}
 use Rattle.model.specs.Tests.{every, some, implies, count}
 use Rattle.model.specs.declared.Fault.{Fault}
 use Rattle.model.specs.declared.Kind.TheVariants.{External}
@@ -253,8 +253,7 @@ module _ (t : TableSyntax) (right : TableRight t) where
             (nth_inside t.atoms a f.atom f.is, some_kind (variable_at t.variables n) (named_pass f.atom.awaits is_some n r.awaits_word r.awaits_known f.here));
         controls_some = λ a h.
             let f = found t.atoms a h in let r = atom_known a f.0 f.1 in
-            let s = (some_decides (bit f.0.controls) 32).0 (and_parts (some (bit f.0.controls) 32) _ r.controls_own).0 in
-            (s.0, ap (λ o. in_set (λ x. x.controls) o s.0) f.1 ∙ s.2);
+            ap (λ o. some (in_set (λ x. x.controls) o) 32) f.1 ∙ (and_parts (some (bit f.0.controls) 32) _ r.controls_own).0;
         controls_own = λ a n h e. own_not_external (variable_at t.variables n) (controls_pass a n (set_found (λ x. x.controls) a n h)) e;
         fault_numbered = numbered;
         fault_empty = λ h. (ap (λ x. length x.atoms) (empty h), λ n. ap (λ x. variable_kind (variable_at x.variables n)) (empty h));
@@ -273,6 +272,10 @@ module _ (t : TableSyntax) (right : TableRight t) where
   none_there : (r : Round) (k : ℕ) → slice_get (choices_of r None) k ≡ None
   none_there Initial k = refl
   none_there Update k = refl
+
+  within_most : (r : Round) (n : ℕ) → n ≤ 8 → n ≤ most_choices r
+  within_most Initial n h = h
+  within_most Update n h = h
 
   few : (r : Round) (a : ℕ) (o : Option TableAtom) → slice_get t.atoms a ≡ o → length (choices_of r o) ≤ 8
   few r a None e = omega (arith, no_choices r)
@@ -364,7 +367,7 @@ module _ (t : TableSyntax) (right : TableRight t) where
   choice_laws fault =
       record {
         some_choice = λ r a h. let f = found t.atoms a h in subst (λ o. 1 ≤ length (choices_of r o)) (sym f.1) (choices_right r a f.0 f.1).some_choice;
-        few_choices = λ r a. few r a (slice_get t.atoms a) refl;
+        few_choices = λ r a. within_most r _ (few r a (slice_get t.atoms a) refl);
         no_choice = λ r a h. ap (λ o. length (choices_of r o)) (slice_get_past t.atoms a h) ∙ no_choices r;
         absent_closed = λ r a k old new h. ap (λ c. choice_opens c old new) (slice_get_past (choices_of r (slice_get t.atoms a)) k h);
         absent_gives = λ r a k n old new h. gives_absent r (slice_get t.atoms a) k n old new h;

@@ -60,6 +60,13 @@ module _ (p : ℕ → Bool) where
   unfolding count
   count_fail i h = rw add-one (ap (λ x. count p i + x) (cond-false (p i) 1 0 h) ∙ omega arith)
 
+-- where each number that passes leads to one that passes the other test, some number passes that test too
+pub some_along : (p q : ℕ → Bool) (f : ℕ → ℕ) (n : ℕ) → ((i : ℕ) → i < n → p i ≡ true → (f i < n) × (q (f i) ≡ true)) → some p n ≡ true → some q n ≡ true
+some_along p q f n along h =
+    let one = (some_decides p n).0 h in
+    let there = along one.0 one.1 one.2 in
+    some_at q n (f one.0) there.0 there.1
+
 -- there is a lowest number that passes exactly where some number does
 pub lowest_there : (p : ℕ → Bool) (n : ℕ) → is_some (lowest p n) ≡ some p n
 unfolding lowest some

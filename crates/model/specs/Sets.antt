@@ -4,6 +4,14 @@ use Rattle.std.specs.List.{filter, range_with_len}
 use Rattle.model.specs.declared.names.Marks.{Marks}
 use Rattle.model.specs.declared.names.Members.{Members}
 
+-- a set of names, 0 to 31
+abbrev pub NameSet : Type 0
+NameSet = Marks 32
+
+-- a set of atoms, 0 to 15
+abbrev pub AtomSet : Type 0
+AtomSet = Marks 16
+
 -- is the number in the set
 abbrev pub has : {N : ℕ} → Marks N → ℕ → Bool
 has s n = slice_index_or s.marks n false
@@ -17,7 +25,7 @@ abbrev pub is_name : ℕ → ℕ → Bool
 is_name k n = is_number 32 k n
 
 -- the names of the set, rising
-abbrev pub members : Marks 32 → List ℕ
+abbrev pub members : NameSet → List ℕ
 members s = filter (has s) (range_with_len 0 32)
 
 -- of the set's names, those that are still to come, rising

@@ -5,10 +5,10 @@ use Rattle.std.proofs.lemmas.Bool.{lt-ltb, le-ltb, cases_lt}
 use Rattle.model.specs.Exchange.{exchange}
 use Rattle.composition.specs.laws.Exchange.{exchange_other}
 use Rattle.model.specs.Sets.{has}
-use Rattle.model.specs.declared.names.Names.{Names}
+use Rattle.model.specs.Sets.{NameSet}
 
 -- no set has more than the 32 names, whichever two of them are exchanged
-pub gathered_all : (names : Names) (a b : ℕ) → a < 32 → b < 32 → (n : ℕ) → (ltb n 32 && has names (exchange a b n)) ≡ has names (exchange a b n)
+pub gathered_all : (names : NameSet) (a b : ℕ) → a < 32 → b < 32 → (n : ℕ) → (ltb n 32 && has names (exchange a b n)) ≡ has names (exchange a b n)
 gathered_all names a b p q n = go (cases_lt n 32)
   where
     go : (n < 32) ⊎ (32 ≤ n) → (ltb n 32 && has names (exchange a b n)) ≡ has names (exchange a b n)

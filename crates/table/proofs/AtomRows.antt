@@ -5,7 +5,7 @@ use Rattle.language.specs.Tables.{TableVariable, size, seen_in, names_own, names
 use Rattle.model.specs.declared.Fault.{Fault}
 use Rattle.model.specs.declared.Round.{Round}
 use Rattle.model.specs.declared.Round.TheVariants.{Initial, Update}
-use Rattle.model.specs.declared.names.Names.{Names}
+use Rattle.model.specs.Sets.{NameSet}
 use Rattle.model.specs.declared.row.Row.{Row}
 use Rattle.table.specs.Laid.{ChoicesLaid, AtomLaid}
 use Rattle.table.specs.Reads.{Tells, Reads}
@@ -30,17 +30,17 @@ module _ (vs : List TableVariable) (r0 : Reader) where
   unfolding read_atom
   controls_stop s = then_stop _ s
 
-  module _ {r1 : Reader} {controls : Names} (c : Reads NamesOf (set_item (names_own vs)) r0 r1 (Ok controls)) where
+  module _ {r1 : Reader} {controls : NameSet} (c : Reads NamesOf (set_item (names_own vs)) r0 r1 (Ok controls)) where
     pub reads_stop : {r : Reader} {fault : Fault} → Reads NamesOf (set_item (names_variables vs)) r1 r (Err fault) → Gives r (Err fault)
     unfolding read_atom
     reads_stop s = then_go _ c (then_stop _ s)
 
-    module _ {r2 : Reader} {reads : Names} (d : Reads NamesOf (set_item (names_variables vs)) r1 r2 (Ok reads)) where
+    module _ {r2 : Reader} {reads : NameSet} (d : Reads NamesOf (set_item (names_variables vs)) r1 r2 (Ok reads)) where
       pub awaits_stop : {r : Reader} {fault : Fault} → Reads NamesOf (set_item (names_variables vs)) r2 r (Err fault) → Gives r (Err fault)
       unfolding read_atom
       awaits_stop s = then_go _ c (then_go _ d (then_stop _ s))
 
-      module _ {r3 : Reader} {awaits : Names} (e : Reads NamesOf (set_item (names_variables vs)) r2 r3 (Ok awaits)) where
+      module _ {r3 : Reader} {awaits : NameSet} (e : Reads NamesOf (set_item (names_variables vs)) r2 r3 (Ok awaits)) where
         pub initials_stop : {r : Reader} {fault : Fault} → Tells (byte_item 4 (between 1 8)) r3 r (Err fault) → Gives r (Err fault)
         unfolding read_atom
         initials_stop s = then_go _ c (then_go _ d (then_go _ e (tell_stop _ s)))

@@ -9,7 +9,7 @@ use Rattle.model.specs.Faults.{own}
 use Rattle.model.specs.Sets.{has}
 use Rattle.model.specs.Tests.{every, some, implies, count}
 use Rattle.model.specs.declared.Fault.{Fault}
-use Rattle.model.specs.declared.names.Names.{Names}
+use Rattle.model.specs.Sets.{NameSet}
 use Rattle.table.specs.Reads.{end_told, any_word, Tells, Reads}
 use Rattle.table.specs.Sets.{NamesOf, passes, passes_in}
 use Rattle.table.specs.Variables.{kept, VariablesLaid}
@@ -29,7 +29,7 @@ some_counted p (suc n) = go (p n) (some_counted p n)
     go false h = let same : count p n ≡ count p n + 0 = omega arith in h ∙ ap (ltb 0) same
 
 -- the tests on names and kinds are those on the number and the variables
-module _ (vs : List TableVariable) (w : ℕ) (variables : Variables) (names : Names) (l : VariablesLaid vs variables) (h : NamesOf w names) where
+module _ (vs : List TableVariable) (w : ℕ) (variables : Variables) (names : NameSet) (l : VariablesLaid vs variables) (h : NamesOf w names) where
   pass_same : (p : Variable → Bool) (q : Option TableVariable → Bool) → ((o : Option TableVariable) → passes p (option_map kept o) ≡ q o) → every (passes_in p variables names) 32 ≡ every (λ n. implies (bit w n) (q (variable_at vs n))) 32
   pass_same p q same = ap (λ t. every t 32) (fun_ext (λ n. ap₂ implies (h n) (ap (passes p) (l n) ∙ same (variable_at vs n))))
 
@@ -59,7 +59,7 @@ module _ (vs : List TableVariable) (w : ℕ) (variables : Variables) (names : Na
       let no : ltb 0 (count (has names) 32) ≡ false = grind (arith, nat_tests) in
       ap (λ b. b && every (λ n. implies (bit w n) (is_own (variable_at vs n))) 32) (sym (some_same ∙ no))
 
-pub size_same : (w : ℕ) (names : Names) → NamesOf w names → count (has names) 32 ≡ size w
+pub size_same : (w : ℕ) (names : NameSet) → NamesOf w names → count (has names) 32 ≡ size w
 size_same w names h = ap (λ p. count p 32) (fun_ext h)
 
 -- a set whose four bytes are there
@@ -74,7 +74,7 @@ module _ {old new : Reader} {w : ℕ} (p : ℕ → Bool) (r : Tells any_word old
   word_at_old : set_item p old.bytes.now old.place ≡ judgement 4 old.place new.place (if_passes p w)
   word_at_old = set_at p old.bytes.now old.place w new.place (told_fine (length old.bytes.now) (any_word old.bytes.now old.place) w new.place r.told)
 
-  pub set_fine : {names : Names} → NamesOf w names → true ≡ p w → Reads NamesOf (set_item p) old new (Ok names)
+  pub set_fine : {names : NameSet} → NamesOf w names → true ≡ p w → Reads NamesOf (set_item p) old new (Ok names)
   set_fine h t = record { same = r.same; told = record { part = w; read = word_at_old ∙ ap (judgement 4 old.place new.place) (cond-true (p w) (Some w) None (sym t)); made = h } }
 
   pub set_wrong : {fault : Fault} → fault ≡ own 4 old.place → false ≡ p w → Reads NamesOf (set_item p) old new (Err fault)

@@ -14,7 +14,7 @@ use Rattle.std.specs.Result.{result_copied, result_err, result_ok}
 use Rattle.std.specs.Slice.{IsItemAt}
 use Rattle.model.specs.Rows.{listed}
 use Rattle.model.specs.Sets.{has}
-use Rattle.model.specs.declared.names.Names.{Names}
+use Rattle.model.specs.Sets.{NameSet}
 use Rattle.model.specs.declared.Fault.{Fault}
 use Rattle.model.specs.declared.Round.{Round}
 use Rattle.model.specs.declared.Round.TheVariants.{Initial, Update}
@@ -190,7 +190,7 @@ count_within p (suc n) = go (p n) (count_within p n)
     go true h = omega arith
     go false h = omega arith
 
-module _ (t : Table) (r : Round) (i k' n : ℕ) (controls : Names) (same : (n : ℕ) → has controls n ≡ (outline_of t).controls i n) where
+module _ (t : Table) (r : Round) (i k' n : ℕ) (controls : NameSet) (same : (n : ℕ) → has controls n ≡ (outline_of t).controls i n) where
   module _ (here : has controls n ≡ true) where
     name_low : n < 32
     name_low =

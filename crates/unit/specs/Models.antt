@@ -5,7 +5,7 @@ use Rattle.expression.specs.Evaluation.{everything}
 use Rattle.language.specs.Expressions.{Truth, negation, always, Reading, good, bad, whole_truth}
 use Rattle.model.specs.Meanings.{Meaning}
 use Rattle.model.specs.Rows.{listed}
-use Rattle.model.specs.declared.names.Names.{Names}
+use Rattle.model.specs.Sets.{NameSet}
 use Rattle.model.specs.declared.row.Row.{Row}
 use Rattle.unit.specs.declared.claims.Claim.{Claim}
 use Rattle.unit.specs.declared.claims.Mark.{Mark}
@@ -36,7 +36,7 @@ claims_of None = []
 claims_of (Some cs) = map claim_of (listed cs)
 
 -- a mark for each of the 16 atoms: is it in the set
-abbrev pub marks_of : Names → List Bool
+abbrev pub marks_of : NameSet → List Bool
 marks_of atoms = take 16 atoms.marks
 
 abbrev pub phase_of : Phase → units.Phase

@@ -2,7 +2,7 @@
 use Rattle.std.specs.Prelude.{◌≡◌, ℕ, ◌-◌, ◌<◌, ◌≤◌, Bool, true, false, cond, pos, negsuc, ◌≤ℤ◌, Some, None, Option, nat_lt, refl}
 use Rattle.std.proofs.Common.{sym, ap, ◌∙◌, not-suc-le-zero, arith}
 use Rattle.std.specs.Int.Signed.{le_z_yes}
-use Rattle.model.specs.Meanings.{Valuation, OutlineFacts, ChoiceFacts, Alike, ChoiceLaws, Meaning}
+use Rattle.model.specs.Meanings.{Valuation, OutlineFacts, ChoiceFacts, Alike, ChoiceLaws, Meaning, most_choices}
 use Rattle.model.specs.declared.Fault.{Fault}
 use Rattle.model.specs.declared.Round.{Round}
 use Rattle.composition.specs.Acts.{acts_with, seen_below, renamed_choices, renamed_acts, hidden_acts, joined_choices, joined_acts}
@@ -106,7 +106,7 @@ module _ (l r : Meaning) where
   joined_sound =
       record {
         some_choice = λ k a h. by_atom_both count (l.acts.choices k) (r.acts.choices k) a (λ c. 1 ≤ c) (l.choice_laws.some_choice k a) (λ le. r.choice_laws.some_choice k (a - count) (omega arith));
-        few_choices = λ k a. by_atom_both count (l.acts.choices k) (r.acts.choices k) a (λ c. c ≤ 8) (λ _. l.choice_laws.few_choices k a) (λ _. r.choice_laws.few_choices k (a - count));
+        few_choices = λ k a. by_atom_both count (l.acts.choices k) (r.acts.choices k) a (λ c. c ≤ most_choices k) (λ _. l.choice_laws.few_choices k a) (λ _. r.choice_laws.few_choices k (a - count));
         no_choice = λ k a h. by_atom_both count (l.acts.choices k) (r.acts.choices k) a (λ c. c ≡ 0) (λ lt. absurd (omega arith)) (λ le. r.choice_laws.no_choice k (a - count) (omega arith));
         absent_closed = λ k a i old new.
             elim (nat_lt a count) as (λ t. cond t (l.acts.choices k a) (r.acts.choices k (a - count)) ≤ i → cond t (l.acts.opens k a i old new) (r.acts.opens k (a - count) i old new) ≡ false)

@@ -1,13 +1,15 @@
 -- The outlines of renamed, hidden and joined drawings keep the laws of outlines.
 use Rattle.std.specs.Prelude.{◌≡◌, ℕ, ◌+◌, ◌-◌, ◌<◌, ◌≤◌, Bool, true, false, ◌⊎◌, is_some, Some, None, Option, ◌==◌, ◌≢◌, nat_lt, refl}
-use Rattle.std.proofs.Common.{inl, inr, sym, ap, subst, ◌∙◌, not-suc-le-zero, arith}
+use Rattle.std.proofs.Common.{inl, inr, sym, ap, ◌∙◌, not-suc-le-zero, arith}
 use Rattle.std.proofs.lemmas.Bool.{true≢false, false≢true, cond_both, cond-true, cond-false, cases_Bool, cases_lt, ltb-true, ltb-false, lt-ltb, le-ltb, eqb-true}
 use Rattle.model.specs.Meanings.{OutlineFacts, OutlineLaws}
+use Rattle.model.specs.Tests.{some}
+use Rattle.model.proofs.Bounded.{some_along}
 use Rattle.model.specs.declared.Fault.{Fault}
 use Rattle.model.specs.declared.Kind.{Kind}
 use Rattle.model.specs.declared.Kind.TheVariants.{Private, Interface, External}
 use Rattle.model.specs.Exchange.{exchange}
-use Rattle.composition.specs.laws.Exchange.{exchange_twice, exchange_from}
+use Rattle.composition.specs.laws.Exchange.{exchange_twice, exchange_from, exchange_within}
 use Rattle.composition.specs.Allowed.{Renames, Hides}
 use Rattle.composition.specs.laws.Faults.{some≢none, none_from, Numbered, numbered_at, renames, renamed_numbered, hides, hidden_numbered, Joins, joins, joined_numbered}
 use Rattle.composition.specs.Faults.{is_private, is_interface, fault_of_renamed, fault_of_hidden, fault_of_joined}
@@ -51,7 +53,10 @@ module _ (o : OutlineFacts) (laws : OutlineLaws o) (a b : ℕ) where
         controls_known = λ x n. laws.controls_known x (exchange a b n);
         reads_known = λ x n. laws.reads_known x (exchange a b n);
         awaits_known = λ x n. laws.awaits_known x (exchange a b n);
-        controls_some = λ x h. let one = laws.controls_some x h in (exchange a b one.0, subst (λ n. o.controls x n ≡ true) (sym (exchange_twice a b one.0)) one.1);
+        controls_some = λ x h.
+            some_along (o.controls x) (λ n. o.controls x (exchange a b n)) (exchange a b) 32
+            (λ n lt e. (exchange_within 32 a b n (laws.names a fine.old_there) fine.new_name lt, ap (o.controls x) (exchange_twice a b n) ∙ e))
+            (laws.controls_some x h);
         controls_own = λ x n. laws.controls_own x (exchange a b n);
         fault_numbered = numbered_none;
         fault_empty = λ e. absurd (false≢true e);
@@ -173,9 +178,11 @@ module _ (l r : OutlineFacts) (left : OutlineLaws l) (right : OutlineLaws r) whe
         fault_empty = λ e. absurd (false≢true e);
       }
     where
-      some_controlled : (a : ℕ) → a < l.atoms + r.atoms → (a < l.atoms) ⊎ (l.atoms ≤ a) → (n : ℕ) × ((joined_tables l r).controls a n ≡ true)
-      some_controlled a h (inl lt) = let one = left.controls_some a lt in (one.0, by_atom_left l.atoms (λ x. l.controls x one.0) (λ x. r.controls x one.0) a lt ∙ one.1)
-      some_controlled a h (inr le) = let one = right.controls_some (a - l.atoms) (omega arith) in (one.0, by_atom_right l.atoms (λ x. l.controls x one.0) (λ x. r.controls x one.0) a le ∙ one.1)
+      some_controlled : (a : ℕ) → a < l.atoms + r.atoms → (a < l.atoms) ⊎ (l.atoms ≤ a) → some ((joined_tables l r).controls a) 32 ≡ true
+      some_controlled a h (inl lt) =
+          some_along (l.controls a) ((joined_tables l r).controls a) (λ n. n) 32 (λ n inside e. (inside, by_atom_left l.atoms (λ x. l.controls x n) (λ x. r.controls x n) a lt ∙ e)) (left.controls_some a lt)
+      some_controlled a h (inr le) =
+          some_along (r.controls (a - l.atoms)) ((joined_tables l r).controls a) (λ n. n) 32 (λ n inside e. (inside, by_atom_right l.atoms (λ x. l.controls x n) (λ x. r.controls x n) a le ∙ e)) (right.controls_some (a - l.atoms) (omega arith))
 
       part : {P : Type 0} (n : ℕ) → is_some (joined_kind (l.kind n) (r.kind n)) ≡ true → (is_some (l.kind n) ≡ true → P) → (is_some (l.kind n) ≡ false → is_some (r.kind n) ≡ true → P) → P
       part n e h k = elim (cases_Bool (is_some (l.kind n))) [ inl t ↦ h t | inr f ↦ k f (joined_some_rest (l.kind n) (r.kind n) e f) ]

@@ -1,7 +1,7 @@
 use Rattle.std.proofs.Common.{◌∙◌, Ok, rules, tests}
 use Rattle.std.proofs.lemmas.Iterator.{items_from_collect, YieldsList-from_map}
 use Rattle.std.proofs.lemmas.Iterator.Consumers.{YieldsList-at, YieldsList-from_first}
-use Rattle.model.specs.Sets.{has, names_left}
+use Rattle.model.specs.Sets.{has, members_left}
 use Rattle.wording.proofs.Below.{assigned, assignments_below}
 use Rattle.wording.proofs.ask.reply_to.Goals as goal
 
@@ -14,6 +14,6 @@ returns g c =
       opens = c.is_open-open.ensures;
       given =
           items_from_collect {E = Unit {0}} (Ok c.in_ok-given.given) c.in_ok-given.ensures.ran
-          (YieldsList-from_map _ (assigned o acts q) (YieldsList-at c.map.ensures.source (YieldsList-from_first (λ n. n) names_left _ c.iter.ensures)) c.map.ensures.closure (λ x r q k. search (rules, tests)))
+          (YieldsList-from_map _ (assigned o acts q) (YieldsList-at c.map.ensures.source (YieldsList-from_first (λ n. n) members_left _ c.iter.ensures)) c.map.ensures.closure (λ x r q k. search (rules, tests)))
           ∙ assignments_below o acts q (has c.controls.result) c.controls.ensures 32;
     }
