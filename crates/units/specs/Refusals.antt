@@ -1,6 +1,6 @@
 -- What each refusal tells: its number, the layer of a pile, and the place in it; and its words.
 use Rattle.std.specs.Prelude.{ℕ, List, ◌++◌, codes, decimal}
-use Rattle.model.specs.Faults.{own, fault_numbers}
+use Rattle.model.specs.Faults.{own, fault_text}
 use Rattle.model.specs.declared.Fault.{Fault}
 use Rattle.units.specs.declared.refusal.Refusal.{Refusal}
 use Rattle.units.specs.declared.refusal.Refusal.TheVariants.{FaultyDrawing, NotOneController, AwaitsItself, SeesTooMuch, GetsStuck, LeavesRange, TooWide, TooManyClaims, NotIdle, NoRoomForClaim, WrongClaim, NoSuchClaim, WrongSize, NotAState, FalseIn, TrueInLast, InitialStateMissing, NotInitial, SuccessorMissing, NotASuccessor, NotAllHeld, RoundOpen, WrongValue, WrongSlip, NoRoundLeft, NoAtomToFire, MustWait, ChoiceNotOpen, AtomsMissing}
@@ -39,7 +39,7 @@ refusal_fault AtomsMissing = own 36 0
 
 -- a refusal in words
 abbrev pub refusal_words : Refusal → List ℕ
-refusal_words (FaultyDrawing fault) = codes "the drawing has the fault " ++ fault_numbers fault
+refusal_words (FaultyDrawing fault) = codes "the drawing has the fault " ++ fault_text fault
 refusal_words (NotOneController name) = codes "not exactly one atom controls name " ++ decimal name
 refusal_words (AwaitsItself atom) = codes "an atom awaits itself: atom " ++ decimal atom
 refusal_words (SeesTooMuch atom) = codes "an atom sees more than 65,536 combinations of values: atom " ++ decimal atom

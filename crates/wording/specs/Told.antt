@@ -2,7 +2,7 @@
 use Rattle.std.specs.Prelude.{◌≡◌, ℕ, ℤ, zero, suc, ◌+◌, ◌^◌, ◌<◌, Bool, cond, List, [], ◌∷◌, ◌++◌, map, filter, Some, None, vec_items, vec_len, codes, Option, Vec, slice_index_or}
 use Rattle.std.specs.List.{range_with_len}
 use Rattle.std.specs.declared.alloc.Global.{Global}
-use Rattle.model.specs.Faults.{fault_numbers}
+use Rattle.model.specs.Faults.{fault_text}
 use Rattle.model.specs.Meanings.{OutlineFacts, ChoiceFacts}
 use Rattle.model.specs.Sets.{has}
 use Rattle.model.specs.States.{value}
@@ -22,7 +22,7 @@ use Rattle.sights.specs.declared.sight.Sight.{Sight}
 -- the number, layer and place of a fault, or zeros
 abbrev pub numbers_or_zeros : Option Fault → List ℕ
 numbers_or_zeros None = codes "0 0 0"
-numbers_or_zeros (Some f) = fault_numbers f
+numbers_or_zeros (Some f) = fault_text f
 
 -- what f lists at each number below n, in their order
 unfoldable pub below : {X : Type 0} → (ℕ → List X) → ℕ → List X
