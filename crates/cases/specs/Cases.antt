@@ -1,64 +1,66 @@
 -- Worked cases: what is asked, and the four numbers that the definitions answer it with.
-use Rattle.std.specs.Prelude.{ℕ, List, [], ◌∷◌, ◌++◌, take, replicate, Some, None, Option, slice_set}
+use Rattle.std.specs.Prelude.{ℕ, ◌+◌, List, [], ◌∷◌, ◌++◌, take, drop, replicate, Some, None, Option, slice_set}
 use Rattle.std.specs.List.{flat_map}
-use Rattle.composition.specs.Meanings as piles
+use Rattle.composition.specs.Meanings.{renamed, hidden, joined}
 use Rattle.gates.specs.OpenedLaws.{gates_meaning}
 use Rattle.language.specs.TableLaws.{table_meaning}
 use Rattle.model.specs.Meanings.{Meaning}
-use Rattle.model.specs.Tests.{lowest}
 use Rattle.model.specs.declared.Fault.{Fault}
-use Rattle.theory.specs.Enumerations.{below}
+use Rattle.theory.specs.Enumerations.{below as numbers_below}
 use Rattle.units.specs.Refusals.{refusal_fault}
 use Rattle.units.specs.declared.refusal.Refusal.{Refusal}
-use Rattle.units.specs.declared.refusal.Refusal.TheVariants.{SeesTooMuch}
-use Rattle.units.specs.Sealing.{at_lowest, sees_too_much}
 use Rattle.units.specs.Units.{UnitModel, Answer, done, refused, seal, verdict_of, claim, certify, refute}
 
 -- number, layer and place, and the count or length where there is one
-pub record Told : Type 0 where
+pub record Numbers : Type 0 where
   pub number : ℕ
   pub layer : ℕ
   pub place : ℕ
   pub count : ℕ
 
-abbrev pub told : ℕ → ℕ → ℕ → Told
-told number place count = record { number = number; layer = 0; place = place; count = count }
+abbrev pub accepted : ℕ → Numbers
+accepted n = record { number = 0; layer = 0; place = 0; count = n }
 
-abbrev pub fault_told : Option Fault → Told
-fault_told None = told 0 0 0
-fault_told (Some f) = record { number = f.number; layer = f.layer; place = f.place; count = 0 }
+abbrev pub below : ℕ → ℕ → ℕ → Numbers
+below number layer place = record { number = number; layer = layer; place = place; count = 0 }
 
-abbrev pub refusal_told : Option Refusal → Told
-refusal_told None = told 0 0 0
-refusal_told (Some r) = fault_told (Some (refusal_fault r))
+-- in the top layer
+abbrev pub wrong : ℕ → ℕ → Numbers
+wrong number place = below number 0 place
 
-abbrev pub answer_told : Answer ℕ → Told
-answer_told (done n) = told 0 0 n
-answer_told (refused r) = refusal_told (Some r)
+abbrev pub of_fault : Option Fault → Numbers
+of_fault None = accepted 0
+of_fault (Some f) = below f.number f.layer f.place
 
--- A question, and what the definitions answer. The sight is the one check of sealing on what an atom sees, without the
--- checks after it, which go through all of that.
+abbrev pub of_refusal : Option Refusal → Numbers
+of_refusal None = accepted 0
+of_refusal (Some r) = of_fault (Some (refusal_fault r))
+
+abbrev pub of_answer : Answer ℕ → Numbers
+of_answer (done n) = accepted n
+of_answer (refused r) = of_refusal (Some r)
+
+-- A question, and what the definitions answer: what is wrong with a drawing, the verdict on it when sealed, and what is answered to a
+-- certificate and to a run for the only claim on such a unit.
 pub data Question : Type 0 where
-  fault_of : List ℕ → Question
+  fault_of : Meaning → Question
   verdict_on : Meaning → Question
-  sight_of : Meaning → Question
-  certified : Meaning → List ℕ → List ℕ → Question
-  refuted : Meaning → List ℕ → List ℕ → Question
+  certifying : Meaning → List ℕ → List ℕ → Question
+  refuting : Meaning → List ℕ → List ℕ → Question
 
 -- a unit over the module that carries one claim
-abbrev pub claimed : Meaning → List ℕ → UnitModel
-claimed m says = (claim (seal m 1) says).unit
+abbrev pub unit_claiming : Meaning → List ℕ → UnitModel
+unit_claiming m says = (claim (seal m 1) says).unit
 
-abbrev pub answered : Question → Told
-answered (fault_of table) = fault_told (table_meaning table).outline.fault
-answered (verdict_on m) = refusal_told (verdict_of (seal m 1))
-answered (sight_of m) = refusal_told (at_lowest SeesTooMuch (lowest (sees_too_much m.outline) m.outline.atoms))
-answered (certified m says states) = answer_told (certify (claimed m says) 0 states).answer
-answered (refuted m says states) = answer_told (refute (claimed m says) 0 states).answer
+abbrev pub answer_to : Question → Numbers
+answer_to (fault_of m) = of_fault m.outline.fault
+answer_to (verdict_on m) = of_refusal (verdict_of (seal m 1))
+answer_to (certifying m says states) = of_answer (certify (unit_claiming m says) 0 states).answer
+answer_to (refuting m says states) = of_answer (refute (unit_claiming m says) 0 states).answer
 
 pub record Case : Type 0 where
   pub asked : Question
-  pub answer : Told
+  pub answer : Numbers
 
 -- the toggle: one interface variable, name 0, top 1, that starts at 0 and becomes 1 minus its old value
 abbrev pub toggle : List ℕ
@@ -77,7 +79,7 @@ inverter a out = gates_meaning (0 ∷ a ∷ 255 ∷ out ∷ 255 ∷ [])
 
 -- so many external variables of top 1, and no atoms
 abbrev pub external_bits : ℕ → Meaning
-external_bits n = table_meaning (n ∷ (flat_map (λ name. name ∷ 2 ∷ 1 ∷ []) (below n) ++ (0 ∷ [])))
+external_bits n = table_meaning (n ∷ (flat_map (λ name. name ∷ 2 ∷ 1 ∷ []) (numbers_below n) ++ (0 ∷ [])))
 
 -- An atom that controls name 2, awaits two external bytes at 0 and 1, which is 65,536 values, and reads the names of a
 -- set, 0 or 2.
@@ -105,25 +107,50 @@ wires a b out = a ∷ b ∷ out ∷ replicate 29 0
 abbrev pub listed : List ℕ → List ℕ
 listed vs = flat_map only vs
 
+-- the toggle with so many negations, fewer than 64, in front of the guard of its first choice
+abbrev pub guarded_toggle : ℕ → Meaning
+guarded_toggle n = table_meaning (take 19 toggle ++ ((n + 1) ∷ (replicate n 18 ++ drop 20 toggle)))
+
+-- NOTs of name 31, so many of them, shown at the names from 0 on
+abbrev pub inverters : ℕ → List ℕ
+inverters n = flat_map (λ out. 0 ∷ 31 ∷ 255 ∷ out ∷ 255 ∷ []) (numbers_below n)
+
+-- a latch whose own name is the input of a NOT
+abbrev pub own_read_elsewhere : Meaning
+own_read_elsewhere = gates_meaning (2 ∷ 0 ∷ 1 ∷ 2 ∷ 3 ∷ 0 ∷ 3 ∷ 255 ∷ 4 ∷ 255 ∷ [])
+
+-- two NOTs that are both shown at name 1
+abbrev pub two_outputs : Meaning
+two_outputs = joined (inverter 0 1) (inverter 2 1)
+
 abbrev pub cases : List Case
 cases =
-    record { asked = fault_of (take 31 toggle); answer = told 2 31 0 }
-    ∷ record { asked = fault_of (toggle ++ (0 ∷ [])); answer = told 6 32 0 }
-    ∷ record { asked = fault_of (slice_set toggle 22 1); answer = told 5 23 0 }
-    ∷ record { asked = verdict_on (table_meaning (slice_set toggle 29 2)); answer = told 16 0 0 }
-    ∷ record { asked = certified toggles below_2 (listed (0 ∷ 1 ∷ [])); answer = told 0 0 3 }
-    ∷ record { asked = certified toggles below_2 (listed (0 ∷ [])); answer = told 27 0 0 }
-    ∷ record { asked = certified toggles below_2 (listed (1 ∷ [])); answer = told 26 0 0 }
-    ∷ record { asked = certified toggles below_2 (listed (0 ∷ 0 ∷ 1 ∷ [])); answer = told 0 0 4 }
-    ∷ record { asked = refuted toggles below_1 (listed (0 ∷ 1 ∷ [])); answer = told 0 0 2 }
-    ∷ record { asked = refuted toggles below_1 (listed (0 ∷ [])); answer = told 25 0 0 }
-    ∷ record { asked = certified conjunction always_true (wires 0 0 0 ++ (wires 1 0 0 ++ (wires 0 1 0 ++ wires 1 1 1))); answer = told 0 0 25 }
-    ∷ record { asked = verdict_on (piles.joined (inverter 0 1) (inverter 1 0)); answer = told 13 0 0 }
-    ∷ record { asked = verdict_on (piles.joined (inverter 0 1) (inverter 2 1)); answer = told 9 1 0 }
-    ∷ record { asked = verdict_on (external_bits 20); answer = told 0 0 0 }
-    ∷ record { asked = verdict_on (external_bits 21); answer = told 17 0 0 }
-    ∷ record { asked = sight_of (sees_two_bytes 0); answer = told 0 0 0 }
-    ∷ record { asked = sight_of (sees_two_bytes 4); answer = told 14 0 0 }
+    record { asked = fault_of (table_meaning (take 31 toggle)); answer = wrong 2 31 }
+    ∷ record { asked = fault_of (table_meaning (toggle ++ (0 ∷ []))); answer = wrong 6 32 }
+    ∷ record { asked = fault_of (table_meaning (slice_set toggle 3 0)); answer = wrong 3 3 }
+    ∷ record { asked = fault_of (table_meaning (slice_set toggle 8 3)); answer = wrong 4 5 }
+    ∷ record { asked = fault_of (table_meaning (slice_set toggle 22 1)); answer = wrong 5 23 }
+    ∷ record { asked = fault_of (guarded_toggle 7); answer = accepted 0 }
+    ∷ record { asked = fault_of (guarded_toggle 8); answer = wrong 5 28 }
+    ∷ record { asked = fault_of (gates_meaning (inverters 16)); answer = accepted 0 }
+    ∷ record { asked = fault_of (gates_meaning (inverters 17)); answer = wrong 18 80 }
+    ∷ record { asked = fault_of own_read_elsewhere; answer = wrong 18 0 }
+    ∷ record { asked = verdict_on (table_meaning (slice_set toggle 29 2)); answer = wrong 16 0 }
+    ∷ record { asked = certifying toggles below_2 (listed (0 ∷ 1 ∷ [])); answer = accepted 3 }
+    ∷ record { asked = certifying toggles below_2 (listed (0 ∷ [])); answer = wrong 27 0 }
+    ∷ record { asked = certifying toggles below_2 (listed (1 ∷ [])); answer = wrong 26 0 }
+    ∷ record { asked = certifying toggles below_2 (listed (0 ∷ 0 ∷ 1 ∷ [])); answer = accepted 4 }
+    ∷ record { asked = refuting toggles below_1 (listed (0 ∷ 1 ∷ [])); answer = accepted 2 }
+    ∷ record { asked = refuting toggles below_1 (listed (0 ∷ [])); answer = wrong 25 0 }
+    ∷ record { asked = refuting toggles below_1 (listed (0 ∷ 0 ∷ [])); answer = wrong 27 1 }
+    ∷ record { asked = certifying conjunction always_true (wires 0 0 0 ++ (wires 1 0 0 ++ (wires 0 1 0 ++ wires 1 1 1))); answer = accepted 25 }
+    ∷ record { asked = verdict_on (joined (inverter 0 1) (inverter 1 0)); answer = wrong 13 0 }
+    ∷ record { asked = verdict_on two_outputs; answer = wrong 9 1 }
+    ∷ record { asked = verdict_on (renamed (hidden two_outputs 1) 0 5); answer = below 9 2 1 }
+    ∷ record { asked = verdict_on (joined (inverter 5 6) (hidden two_outputs 1)); answer = below 9 3 1 }
+    ∷ record { asked = verdict_on (external_bits 20); answer = accepted 0 }
+    ∷ record { asked = verdict_on (external_bits 21); answer = wrong 17 0 }
+    ∷ record { asked = verdict_on (sees_two_bytes 4); answer = wrong 14 0 }
     ∷ []
 
 -- A claim that a run breaks on a part, and a certificate holds on the join

@@ -19,7 +19,7 @@ use Rattle.theory.proofs.Runs.{initial_reachable, step_reachable}
 use Rattle.units.specs.Counting.{any}
 use Rattle.units.specs.Evidence.{states_in, wrong_size, certificate_refusal, run_refusal}
 use Rattle.units.specs.Sealing.{at_lowest, if_so, verdict, ◌else◌}
-use Rattle.units.specs.Units.{Claim, Mark, open_mark, held, broken, Phase, idle, standing, in_round, UnitModel, Slip, Outcome, holds, refused_or, verdict_with, verdict_of, kept_claims, made, claim_renamed, claim_joined, is_idle, claim_sight, claim_reading, claim_added, marked_at, of_claim, is_held, not_all_held, round_open, wrong_value, stands, wrong_slip, kind_of_round, old_state, has_fired, must_wait, fire_refusal_in, fired_in, yet_to_fire, withdrawn, ended, end_if, seal, rename_unit, hide_unit, join_units, claim, certify, refute, open_round, fire, end_round, stop}
+use Rattle.units.specs.Units.{Claim, Mark, open_mark, held, broken, Phase, idle, standing, in_round, UnitModel, Slip, Outcome, holds, refused_or, verdict_with, verdict_of, kept_claims, fresh_unit, claim_renamed, claim_joined, is_idle, claim_sight, claim_reading, claims_with, claims_marked, of_claim, is_held, not_all_held, round_open, wrong_value, standing_state, wrong_slip, kind_of_round, old_state, has_fired, must_wait, fire_refusal_in, phase_fired, yet_to_fire, phase_withdrawn, phase_ended, end_if, seal, rename_unit, hide_unit, join_units, claim, certify, refute, open_round, fire, end_round, stop}
 use Rattle.units.specs.declared.refusal.Refusal.TheVariants.{ChoiceNotOpen, MustWait, NoAtomToFire, NotAllHeld, NotIdle, RoundOpen, WrongSize, WrongSlip, WrongValue}
 use Rattle.units.proofs.Evidence.{else_parts, at_lowest_parts, if_so_parts}
 use Rattle.units.proofs.Theory.{reached_state, certificates_hold, runs_break}
@@ -53,7 +53,7 @@ all_turned P Q (x ∷ xs) f h = (f x h.0, all_turned P Q xs f h.1)
 
 -- units made anew
 
-made_good : (m : Meaning) (number rounds : ℕ) (cs : List Claim) → (verdict m ≡ None → All (Right m) cs) → Good (made m number rounds cs)
+made_good : (m : Meaning) (number rounds : ℕ) (cs : List Claim) → (verdict m ≡ None → All (Right m) cs) → Good (fresh_unit m number rounds cs)
 made_good m number rounds cs f = record { claims_right = go (verdict_with m (ltb 8 (length cs))) refl; phase_right = tt }
   where
     go : (v : Option Refusal) → verdict_with m (ltb 8 (length cs)) ≡ v → All (Right m) (kept_claims v cs)
@@ -121,13 +121,13 @@ claim_good u bs g = guarded Good _ u _ g (λ e.
       phase_right = idle_right u.meaning _ u.phase (not-false (is_idle u.phase) (if_so_parts NotIdle _ two.0));
     })
   where
-    go : (r : Reading Truth) → claim_reading u.meaning bs ≡ r → All (Right u.meaning) (claim_added u.claims r)
+    go : (r : Reading Truth) → claim_reading u.meaning bs ≡ r → All (Right u.meaning) (claims_with u.claims r)
     go (bad place) e = g.claims_right
     go (good p end) e = All-push (Right u.meaning) u.claims (record { says = p; mark = open_mark }) g.claims_right (record { sees = read_sees u.meaning bs p end e; marked = open_is_true u.meaning p })
 
 -- evidence
 
-phase_marked : (m : Meaning) (cs : List Claim) (i : ℕ) (mark : Mark) (p : Phase) → PhaseRight m cs p → PhaseRight m (marked_at i mark cs) p
+phase_marked : (m : Meaning) (cs : List Claim) (i : ℕ) (mark : Mark) (p : Phase) → PhaseRight m cs p → PhaseRight m (claims_marked i mark cs) p
 phase_marked m cs i mark idle h = tt
 phase_marked m cs i mark (standing s) h = (all_marked (HoldsThroughout m) cs i mark h.0 (λ c e k. k), h.1)
 phase_marked m cs i mark (in_round before new fired) h = (all_marked (HoldsThroughout m) cs i mark h.0 (λ c e k. k), h.1, h.2)
@@ -186,7 +186,7 @@ all_hold : (m : Meaning) (cs : List Claim) → not_all_held cs ≡ false → All
 all_hold m [] h g = tt
 all_hold m (c ∷ cs) h g = none_unheld m (c ∷ cs) h g
 
-stood : (m : Meaning) (cs : List Claim) (p : Phase) → PhaseRight m cs p → ReachedBefore m (stands p)
+stood : (m : Meaning) (cs : List Claim) (p : Phase) → PhaseRight m cs p → ReachedBefore m (standing_state p)
 stood m cs idle h = tt
 stood m cs (standing s) h = h.1
 stood m cs (in_round before new fired) h = h.1
@@ -200,7 +200,7 @@ open_good u given long g = guarded Good _ u _ g (λ e.
     let four = else_parts (at_lowest WrongValue (lowest (wrong_value m.outline given) 32)) _ three.1 in
     record {
       claims_right = g.claims_right;
-      phase_right = (all_hold m u.claims (if_so_parts NotAllHeld _ two.0) g.claims_right, stood m u.claims u.phase g.phase_right, begins m (stands u.phase) given long (at_lowest_parts WrongValue _ four.0));
+      phase_right = (all_hold m u.claims (if_so_parts NotAllHeld _ two.0) g.claims_right, stood m u.claims u.phase g.phase_right, begins m (standing_state u.phase) given long (at_lowest_parts WrongValue _ four.0));
     })
 
 pub zeros : (k n : ℕ) → value (replicate k 0) n ≡ 0
@@ -212,7 +212,7 @@ pub old_in_range : (m : Meaning) (before : Option (List ℕ)) → ReachedBefore 
 old_in_range m None h = λ n. subst (λ v. v ≤ m.outline.top n) (sym (zeros 32 n)) (omega arith)
 old_in_range m (Some s) h = (state_parts m.outline s (reached_state m s h)).within
 
-fire_right : (m : Meaning) (cs : List Claim) (fit : Keeps m) (p : Phase) (a k : ℕ) → PhaseRight m cs p → fire_refusal_in m p a k ≡ None → PhaseRight m cs (fired_in m p a k)
+fire_right : (m : Meaning) (cs : List Claim) (fit : Keeps m) (p : Phase) (a k : ℕ) → PhaseRight m cs p → fire_refusal_in m p a k ≡ None → PhaseRight m cs (phase_fired m p a k)
 fire_right m cs fit idle a k h e = tt
 fire_right m cs fit (standing s) a k h e = h
 fire_right m cs fit (in_round before new fired) a k h e =
@@ -243,12 +243,12 @@ yielded_reachable m (Some s) t h y =
     let r = step_reachable {Initial = InitialState m} {Step = Successor m} s t first (record { yielded = y }) in
     record { run = r.run; trajectory = r.trajectory; ends = r.ends }
 
-ended_right : (m : Meaning) (cs : List Claim) (p : Phase) → PhaseRight m cs p → yet_to_fire m p ≡ 0 → PhaseRight m cs (ended p)
+ended_right : (m : Meaning) (cs : List Claim) (p : Phase) → PhaseRight m cs p → yet_to_fire m p ≡ 0 → PhaseRight m cs (phase_ended p)
 ended_right m cs idle h e = tt
 ended_right m cs (standing s) h e = h
 ended_right m cs (in_round before new fired) h e = (h.0, yielded_reachable m before new h.1 (outcome m before new fired h.2 e))
 
-withdrawn_right : (m : Meaning) (cs : List Claim) (p : Phase) → PhaseRight m cs p → PhaseRight m cs (withdrawn p)
+withdrawn_right : (m : Meaning) (cs : List Claim) (p : Phase) → PhaseRight m cs p → PhaseRight m cs (phase_withdrawn p)
 withdrawn_right m cs idle h = tt
 withdrawn_right m cs (standing s) h = h
 withdrawn_right m cs (in_round None new fired) h = tt

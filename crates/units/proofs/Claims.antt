@@ -20,7 +20,7 @@ use Rattle.language.proofs.Renaming.{renaming_exchanges_names}
 use Rattle.model.specs.Meanings.{Meaning}
 use Rattle.model.specs.States.{value, nothing, Reachable}
 use Rattle.units.specs.Promises.{MarkIsTrue}
-use Rattle.units.specs.Units.{Claim, Mark, open_mark, held, broken, holds, claim_sight, claim_renamed, claim_joined, mark_joined, marked_at}
+use Rattle.units.specs.Units.{Claim, Mark, open_mark, held, broken, holds, claim_sight, claim_renamed, claim_joined, mark_joined, claims_marked}
 
 -- it holds in every reachable state
 abbrev pub HoldsThroughout : Meaning → Claim → Type 0
@@ -58,7 +58,7 @@ all_nth P [] i x h e = let z : ◌≡◌ {A = ℕ} 0 1 = cc in absurd (omega ari
 all_nth P (y ∷ ys) zero x h e = let same : y ≡ x = cc in subst P same h.0
 all_nth P (y ∷ ys) (suc i) x h e = all_nth P ys i x h.1 e
 
-pub all_marked : (P : Claim → Type 0) (cs : List Claim) (i : ℕ) (mark : Mark) → All P cs → ((c : Claim) → slice_get cs i ≡ Some c → P c → P (record { says = c.says; mark = mark })) → All P (marked_at i mark cs)
+pub all_marked : (P : Claim → Type 0) (cs : List Claim) (i : ℕ) (mark : Mark) → All P cs → ((c : Claim) → slice_get cs i ≡ Some c → P c → P (record { says = c.says; mark = mark })) → All P (claims_marked i mark cs)
 all_marked P [] i mark h f = tt
 all_marked P (c ∷ cs) zero mark h f = (f c refl h.0, h.1)
 all_marked P (c ∷ cs) (suc i) mark h f = (h.0, all_marked P cs i mark h.1 f)

@@ -12,7 +12,7 @@ use Rattle.model.proofs.Lowest.{lowest_clear, clear_lowest}
 use Rattle.model.proofs.States.{yields_parts}
 use Rattle.theory.specs.Members.{Member}
 use Rattle.units.specs.Accepted.{Certificate, BreakingRun}
-use Rattle.units.specs.Evidence.{state_at, all_states, lists, misses, foreign_state, certificate_refusal, later, run_refusal}
+use Rattle.units.specs.Evidence.{state_at, all_states, is_listed, misses_some, foreign_state_refusal, certificate_refusal, later, run_refusal}
 use Rattle.units.specs.Sealing.{at_lowest, if_so, of_drawing, ◌else◌}
 use Rattle.units.specs.declared.refusal.Refusal.TheVariants.{NotAState, FalseIn, TrueInLast, InitialStateMissing, NotInitial, SuccessorMissing, NotASuccessor}
 use Rattle.units.proofs.Listed.{none_passes, all_fail, lists_parts, lists_from, member_at, index_of, all_states_exact}
@@ -54,41 +54,41 @@ no_index_fails p ss k f =
 
 module _ (m : Meaning) (ss : List (List ℕ)) where
   -- nothing is missed, so what a round yields is listed
-  listed : (r : Round) (s t : List ℕ) → misses m ss r s ≡ false → yields m r s t ≡ true → Member t ss
+  listed : (r : Round) (s t : List ℕ) → misses_some m ss r s ≡ false → yields m r s t ≡ true → Member t ss
   listed r s t h y =
       let state = (yields_parts m r s t y).0 in
-      let both = none_passes (λ u. yields m r s u && not (lists ss u)) (all_states m.outline) t h ((all_states_exact m.outline).complete t state) in
-      lists_parts ss t (⊎_elim (λ e. absurd (both_ways (yields m r s t) e y)) (not-false (lists ss t)) (and_cases (yields m r s t) (not (lists ss t)) both))
+      let both = none_passes (λ u. yields m r s u && not (is_listed ss u)) (all_states m.outline) t h ((all_states_exact m.outline).complete t state) in
+      lists_parts ss t (⊎_elim (λ e. absurd (both_ways (yields m r s t) e y)) (not-false (is_listed ss t)) (and_cases (yields m r s t) (not (is_listed ss t)) both))
 
   -- what a round yields is listed, so nothing is missed
-  none_missed : (r : Round) (s : List ℕ) → ((t : List ℕ) → yields m r s t ≡ true → Member t ss) → misses m ss r s ≡ false
-  none_missed r s f = all_fail (λ u. yields m r s u && not (lists ss u)) (all_states m.outline) (λ t member. go t (yields m r s t) refl)
+  none_missed : (r : Round) (s : List ℕ) → ((t : List ℕ) → yields m r s t ≡ true → Member t ss) → misses_some m ss r s ≡ false
+  none_missed r s f = all_fail (λ u. yields m r s u && not (is_listed ss u)) (all_states m.outline) (λ t member. go t (yields m r s t) refl)
     where
-      go : (t : List ℕ) (b : Bool) → yields m r s t ≡ b → (b && not (lists ss t)) ≡ false
-      go t true e = not_from_true (lists ss t) (lists_from ss t (f t e))
+      go : (t : List ℕ) (b : Bool) → yields m r s t ≡ b → (b && not (is_listed ss t)) ≡ false
+      go t true e = not_from_true (is_listed ss t) (lists_from ss t (f t e))
       go t false e = refl
 
 module _ (m : Meaning) (holds : List ℕ → Bool) (ss : List (List ℕ)) where
   pub certificate_accepted : certificate_refusal m holds ss ≡ None → Certificate m holds ss
   certificate_accepted h =
-      let one = else_parts (foreign_state m ss) _ h in
+      let one = else_parts (foreign_state_refusal m ss) _ h in
       let two = else_parts (at_lowest FalseIn (lowest (λ i. not (holds (state_at ss i))) (length ss))) _ one.1 in
-      let three = else_parts (if_so InitialStateMissing (misses m ss Initial nothing)) _ two.1 in
+      let three = else_parts (if_so InitialStateMissing (misses_some m ss Initial nothing)) _ two.1 in
       record {
         states = each_member (is_state m.outline) ss NotAState one.0;
         true_in_each = each_member holds ss FalseIn two.0;
         initial_listed = λ t i. listed m ss Initial nothing t (if_so_parts InitialStateMissing _ three.0) i.yielded;
         successors_listed = λ s t member u.
             let found = index_of ss s [] member in
-            listed m ss Update s t (subst (λ x. misses m ss Update x ≡ false) found.2 (lowest_clear (λ i. misses m ss Update (state_at ss i)) (length ss) (at_lowest_parts SuccessorMissing _ three.1) found.0 found.1)) u.yielded;
+            listed m ss Update s t (subst (λ x. misses_some m ss Update x ≡ false) found.2 (lowest_clear (λ i. misses_some m ss Update (state_at ss i)) (length ss) (at_lowest_parts SuccessorMissing _ three.1) found.0 found.1)) u.yielded;
       }
 
   pub certificate_accepts : Certificate m holds ss → certificate_refusal m holds ss ≡ None
   certificate_accepts c =
-      else_from (foreign_state m ss) _ (no_index_fails (is_state m.outline) ss NotAState c.states)
+      else_from (foreign_state_refusal m ss) _ (no_index_fails (is_state m.outline) ss NotAState c.states)
       (else_from (at_lowest FalseIn (lowest (λ i. not (holds (state_at ss i))) (length ss))) _ (no_index_fails holds ss FalseIn c.true_in_each)
-      (else_from (if_so InitialStateMissing (misses m ss Initial nothing)) _ (ap (if_so InitialStateMissing) (none_missed m ss Initial nothing (λ t y. c.initial_listed t (record { yielded = y }))))
-      (ap (at_lowest SuccessorMissing) (clear_lowest (λ i. misses m ss Update (state_at ss i)) (length ss) (λ i l. none_missed m ss Update (state_at ss i) (λ t y. c.successors_listed (state_at ss i) t (member_at ss i [] l) (record { yielded = y })))))))
+      (else_from (if_so InitialStateMissing (misses_some m ss Initial nothing)) _ (ap (if_so InitialStateMissing) (none_missed m ss Initial nothing (λ t y. c.initial_listed t (record { yielded = y }))))
+      (ap (at_lowest SuccessorMissing) (clear_lowest (λ i. misses_some m ss Update (state_at ss i)) (length ss) (λ i l. none_missed m ss Update (state_at ss i) (λ t y. c.successors_listed (state_at ss i) t (member_at ss i [] l) (record { yielded = y })))))))
 
 -- runs
 
@@ -130,7 +130,7 @@ module _ (m : Meaning) (holds : List ℕ → Bool) (s : List ℕ) (ts : List (Li
 
   pub run_accepted : run_refusal m holds ss ≡ None → BreakingRun m holds ss
   run_accepted h =
-      let one = else_parts (foreign_state m ss) _ h in
+      let one = else_parts (foreign_state_refusal m ss) _ h in
       let two = else_parts (if_so NotInitial (not (yields m Initial nothing (state_at ss 0)))) _ one.1 in
       let three = else_parts (at_lowest NotASuccessor (later (lowest no_step (length ss - 1)))) _ two.1 in
       let steps : (i : ℕ) → i < length ss - 1 → no_step i ≡ false = lowest_clear no_step (length ss - 1) (later_parts _ (at_lowest_parts NotASuccessor _ three.0)) in
@@ -148,7 +148,7 @@ module _ (m : Meaning) (holds : List ℕ → Bool) (s : List ℕ) (ts : List (Li
   run_accepts b =
       let start = b.trajectory.0 in
       let state = (yields_parts m Initial nothing s start.yielded).0 in
-      else_from (foreign_state m ss) _ (no_index_fails (is_state m.outline) ss NotAState (λ x. member_state m s ts x state b.trajectory.1))
+      else_from (foreign_state_refusal m ss) _ (no_index_fails (is_state m.outline) ss NotAState (λ x. member_state m s ts x state b.trajectory.1))
       (else_from (if_so NotInitial (not (yields m Initial nothing (state_at ss 0)))) _ (ap (if_so NotInitial) (not_from_true _ start.yielded))
       (else_from (at_lowest NotASuccessor (later (lowest no_step (length ss - 1)))) _
       (ap (λ o. at_lowest NotASuccessor (later o)) (clear_lowest no_step (length ss - 1) (λ i l. not_from_true _ (subst (λ t. yields m Update (state_at ss i) t ≡ true) (sym (next_at i)) (continued m s ts b.trajectory.1 i (subst (λ n. i < n) last_index l))))))

@@ -9,8 +9,8 @@ use Rattle.model.proofs.States.{state_parts, state_from}
 use Rattle.theory.specs.Enumerations.{below}
 use Rattle.theory.specs.Members.{Member, Exactly}
 use Rattle.theory.proofs.Enumerations.{ranges_exact, length_below}
-use Rattle.units.specs.Counting.{any, same}
-use Rattle.units.specs.Evidence.{all_states, lists}
+use Rattle.units.specs.Counting.{any, equal_lists}
+use Rattle.units.specs.Evidence.{all_states, is_listed}
 
 pub any_from : {X : Type 0} (p : X → Bool) (xs : List X) (x : X) → Member x xs → p x ≡ true → any p xs ≡ true
 any_from p [] x h k = absurd h
@@ -33,28 +33,28 @@ none_passes p xs x h k = ⊎_elim (λ e. absurd (both_ways (any p xs) h (any_fro
 pub all_fail : {X : Type 0} (p : X → Bool) (xs : List X) → ((x : X) → Member x xs → p x ≡ false) → any p xs ≡ false
 all_fail p xs f = ⊎_elim (λ e. let k = any_parts p xs e in absurd (both_ways (p k.0) (f k.0 k.1) k.2)) (λ e. e) (cases_Bool (any p xs))
 
-pub same_parts : (s t : List ℕ) → same s t ≡ true → s ≡ t
-same_parts [] [] h = refl
-same_parts [] (y ∷ ys) h = absurd (both_ways false refl h)
-same_parts (x ∷ xs) [] h = absurd (both_ways false refl h)
-same_parts (x ∷ xs) (y ∷ ys) h =
-    let both = and_parts (eqb x y) (same xs ys) h in
-    ap₂ (λ z zs. z ∷ zs) (eqb-true x y both.0) (same_parts xs ys both.1)
+pub equal_lists_parts : (s t : List ℕ) → equal_lists s t ≡ true → s ≡ t
+equal_lists_parts [] [] h = refl
+equal_lists_parts [] (y ∷ ys) h = absurd (both_ways false refl h)
+equal_lists_parts (x ∷ xs) [] h = absurd (both_ways false refl h)
+equal_lists_parts (x ∷ xs) (y ∷ ys) h =
+    let both = and_parts (eqb x y) (equal_lists xs ys) h in
+    ap₂ (λ z zs. z ∷ zs) (eqb-true x y both.0) (equal_lists_parts xs ys both.1)
 
-pub same_refl : (s : List ℕ) → same s s ≡ true
-same_refl [] = refl
-same_refl (x ∷ xs) = and_from (eqb x x) (same xs xs) (eq-eqb x x refl) (same_refl xs)
+pub equal_lists_refl : (s : List ℕ) → equal_lists s s ≡ true
+equal_lists_refl [] = refl
+equal_lists_refl (x ∷ xs) = and_from (eqb x x) (equal_lists xs xs) (eq-eqb x x refl) (equal_lists_refl xs)
 
-pub lists_parts : (ss : List (List ℕ)) (t : List ℕ) → lists ss t ≡ true → Member t ss
+pub lists_parts : (ss : List (List ℕ)) (t : List ℕ) → is_listed ss t ≡ true → Member t ss
 lists_parts [] t h = absurd (both_ways false refl h)
-lists_parts (s ∷ ss) t h = go (lists_parts ss t) (or_cases (same t s) (lists ss t) h)
+lists_parts (s ∷ ss) t h = go (lists_parts ss t) (or_cases (equal_lists t s) (is_listed ss t) h)
   where
-    go : (lists ss t ≡ true → Member t ss) → (same t s ≡ true) ⊎ (lists ss t ≡ true) → Member t (s ∷ ss)
-    go rest (inl e) = inl (sym (same_parts t s e))
+    go : (is_listed ss t ≡ true → Member t ss) → (equal_lists t s ≡ true) ⊎ (is_listed ss t ≡ true) → Member t (s ∷ ss)
+    go rest (inl e) = inl (sym (equal_lists_parts t s e))
     go rest (inr e) = inr (rest e)
 
-pub lists_from : (ss : List (List ℕ)) (t : List ℕ) → Member t ss → lists ss t ≡ true
-lists_from ss t h = any_from (same t) ss t h (same_refl t)
+pub lists_from : (ss : List (List ℕ)) (t : List ℕ) → Member t ss → is_listed ss t ≡ true
+lists_from ss t h = any_from (equal_lists t) ss t h (equal_lists_refl t)
 
 -- members by index
 

@@ -3,7 +3,7 @@ use Rattle.std.proofs.Common.{◌≡◌, ℕ, List, Some, None, subst, arith}
 use Rattle.std.specs.List.{AllByRecursion as All}
 use Rattle.model.specs.Meanings.{Meaning}
 use Rattle.units.specs.Promises.{Sound, EveryUnitFromTheSiteIsSound}
-use Rattle.units.specs.Units.{UnitModel, Claim, Phase, idle, standing, in_round, stands}
+use Rattle.units.specs.Units.{UnitModel, Claim, Phase, idle, standing, in_round, standing_state}
 use Rattle.units.specs.Life.{Came, by_seal, by_claim, by_certify, by_refute, by_open, by_fire, by_end, by_stop, by_rename, by_hide, by_join}
 use Rattle.units.proofs.Calls.{ReachedBefore, PhaseRight, Good, seal_good, claim_good, certify_good, refute_good, open_good, fire_good, end_good, stop_good, rename_good, hide_good, join_good}
 use Rattle.units.proofs.Claims.{HoldsThroughout, Right, all_nth}
@@ -25,7 +25,7 @@ came_good (by_join l r h k) = join_good l r (came_good h) (came_good k)
 none≢some : {X : Type 0} (x : X) → None ≡ Some x → ⊥
 none≢some x e = let z : ◌≡◌ {A = ℕ} 0 1 = cc in omega arith
 
-standing_right : (m : Meaning) (cs : List Claim) (p : Phase) (s : List ℕ) → PhaseRight m cs p → stands p ≡ Some s → All (HoldsThroughout m) cs × ReachedBefore m (Some s)
+standing_right : (m : Meaning) (cs : List Claim) (p : Phase) (s : List ℕ) → PhaseRight m cs p → standing_state p ≡ Some s → All (HoldsThroughout m) cs × ReachedBefore m (Some s)
 standing_right m cs idle s h e = absurd (none≢some s e)
 standing_right m cs (standing t) s h e = let same : t ≡ s = cc in (h.0, subst (λ x. ReachedBefore m (Some x)) same h.1)
 standing_right m cs (in_round before new fired) s h e = (h.0, subst (ReachedBefore m) e h.1)

@@ -15,7 +15,7 @@ use Rattle.model.proofs.Marks.{unmarked}
 use Rattle.model.proofs.States.{state_parts, takes_parts, yields_parts}
 use Rattle.theory.specs.Enumerations.{below}
 use Rattle.units.specs.Sealing.{owned, is_external, at_lowest, if_so, verdict, ◌else◌}
-use Rattle.units.specs.Units.{Phase, idle, standing, in_round, UnitModel, Slip, done, Outcome, refused_or, unless, verdict_of, not_all_held, round_open, wrong_value, stands, wrong_slip, kind_of_round, old_state, has_fired, must_wait, fire_refusal_in, as_value, values_made, yet_to_fire, ended, end_if, open_round, fire, end_round}
+use Rattle.units.specs.Units.{Phase, idle, standing, in_round, UnitModel, Slip, done, Outcome, refused_or, unless, verdict_of, not_all_held, round_open, wrong_value, standing_state, wrong_slip, kind_of_round, old_state, has_fired, must_wait, fire_refusal_in, as_value, values_made, yet_to_fire, phase_ended, end_if, open_round, fire, end_round}
 use Rattle.units.specs.declared.refusal.Refusal.TheVariants.{ChoiceNotOpen, MustWait, NoAtomToFire, NoRoundLeft, NotAllHeld, RoundOpen, WrongSlip, WrongValue}
 use Rattle.units.proofs.Evidence.{else_parts, else_from, if_so_parts}
 use Rattle.units.specs.Rounds.{Accepted, Follows, EndedInOutcome, RoundsEndOnlyInOutcomes, after_fires, FiresAccepted, next_slip, RoundsReachEveryOutcome}
@@ -69,8 +69,8 @@ end_in_outcomes u h slip accepted =
         let mid = subst (PhaseRight u.meaning u.claims) e right in
         subst (λ b. EndedInOutcome u (end_if b u).unit) (sym (gone _ k)) (record {
           state = new;
-          stands_now = ap ended e;
-          follows = subst (λ q. Follows u.meaning (stands q) new) (sym e) (follows_from u.meaning before new (outcome u.meaning before new fired mid.2 none));
+          stands_now = ap phase_ended e;
+          follows = subst (λ q. Follows u.meaning (standing_state q) new) (sym e) (follows_from u.meaning before new (outcome u.meaning before new fired mid.2 none));
         })
 
 -- rounds reach every outcome
@@ -285,7 +285,7 @@ module _ (u : UnitModel) (fine : verdict_of u ≡ None) (before : Option (List �
 
 pub reach_outcomes : RoundsReachEveryOutcome
 reach_outcomes u fine all_held closed room t follows =
-    let before = stands u.phase in
+    let before = standing_state u.phase in
     let leads = follows_parts u.meaning before t follows in
     let first = given u fine before t leads in
     let begin = in_phase u fine before t leads (in_round before first (replicate 16 false)) in

@@ -18,7 +18,7 @@ use Rattle.theory.proofs.Evidence.{list_certifies, short_run}
 use Rattle.theory.proofs.Members.{count_unique, kept_exact, distinct_kept}
 use Rattle.theory.proofs.Runs.{certificate_sound}
 use Rattle.units.specs.Accepted.{Certificate, BreakingRun}
-use Rattle.units.specs.Evidence.{all_states, choice_rows, led_by, outcomes}
+use Rattle.units.specs.Evidence.{all_states, choice_rows, row_leads, outcomes}
 use Rattle.units.specs.Promises.{CertificatesAreJudgedRightly, RunsAreJudgedRightly, AcceptedCertificatesHold, AcceptedRunsBreak, EvidenceExistsForEveryTest, Yielding, TheCountIsUnique, ChoicesDependOnWhatTheySee}
 use Rattle.units.proofs.Evidence.{certificate_accepted, certificate_accepts, run_accepted, run_accepts}
 use Rattle.units.proofs.Listed.{all_states_exact}
@@ -98,15 +98,15 @@ outcomes_exact m r s = record {
       record { state = (all_states_exact m.outline).sound pair.0 both.0; row = both.1; led = k.1 };
 }
   where
-    kept : Exactly (λ p. Member p (pairs (all_states m.outline) (choice_rows m r)) × (led_by m r s p ≡ true)) (outcomes m r s)
-    kept = kept_exact (led_by m r s) (pairs (all_states m.outline) (choice_rows m r))
+    kept : Exactly (λ p. Member p (pairs (all_states m.outline) (choice_rows m r)) × (row_leads m r s p ≡ true)) (outcomes m r s)
+    kept = kept_exact (row_leads m r s) (pairs (all_states m.outline) (choice_rows m r))
 
     all : Exactly (λ p. Member p.0 (all_states m.outline) × Member p.1 (choice_rows m r)) (pairs (all_states m.outline) (choice_rows m r))
     all = pairs_exact (all_states m.outline) (choice_rows m r)
 
 outcomes_distinct : (m : Meaning) (r : Round) (s : List ℕ) → Distinct (outcomes m r s)
 outcomes_distinct m r s =
-    distinct_kept (led_by m r s) (pairs (all_states m.outline) (choice_rows m r)) (distinct_pairs (all_states m.outline) (choice_rows m r) (distinct_ranges _) (distinct_ranges _))
+    distinct_kept (row_leads m r s) (pairs (all_states m.outline) (choice_rows m r)) (distinct_pairs (all_states m.outline) (choice_rows m r) (distinct_ranges _) (distinct_ranges _))
 
 pub count_is_unique : TheCountIsUnique
 count_is_unique m r s ps distinct exact = count_unique distinct (outcomes_distinct m r s) exact (outcomes_exact m r s)

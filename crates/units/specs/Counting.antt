@@ -17,8 +17,8 @@ any p [] = false
 any p (x ∷ xs) = p x || any p xs
 
 -- two lists of numbers are the same
-abbrev pub same : List ℕ → List ℕ → Bool
-same [] [] = true
-same [] (y ∷ ys) = false
-same (x ∷ xs) [] = false
-same (x ∷ xs) (y ∷ ys) = x == y && same xs ys
+abbrev pub equal_lists : List ℕ → List ℕ → Bool
+equal_lists [] [] = true
+equal_lists [] (y ∷ ys) = false
+equal_lists (x ∷ xs) [] = false
+equal_lists (x ∷ xs) (y ∷ ys) = x == y && equal_lists xs ys

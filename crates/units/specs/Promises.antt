@@ -6,9 +6,9 @@ use Rattle.model.specs.States.{is_state, Reachable}
 use Rattle.model.specs.declared.Round.{Round}
 use Rattle.theory.specs.Members.{Member, Distinct, Exactly}
 use Rattle.units.specs.Accepted.{Certificate, BreakingRun}
-use Rattle.units.specs.Evidence.{certificate_refusal, run_refusal, outcomes, choice_rows, led_by}
+use Rattle.units.specs.Evidence.{certificate_refusal, run_refusal, outcomes, choice_rows, row_leads}
 use Rattle.units.specs.Life.{Came}
-use Rattle.units.specs.Units.{UnitModel, Claim, held, broken, holds, stands, verdict_of, certify_refusal, refute_refusal}
+use Rattle.units.specs.Units.{UnitModel, Claim, held, broken, holds, standing_state, verdict_of, certify_refusal, refute_refusal}
 
 -- Evidence
 
@@ -42,7 +42,7 @@ EvidenceExistsForEveryTest = (m : Meaning) (test : List ℕ → Bool) (all : Lis
 pub record Yielding (m : Meaning) (r : Round) (s : List ℕ) (pair : List ℕ × List ℕ) : Type 0 where
   pub state : is_state m.outline pair.0 ≡ true
   pub row : Member pair.1 (choice_rows m r)
-  pub led : led_by m r s pair ≡ true
+  pub led : row_leads m r s pair ≡ true
 
 -- The count is unique: any list without repetition of exactly the pairs that count has that length.
 abbrev pub TheCountIsUnique : Type 0
@@ -80,7 +80,7 @@ pub record EvidenceCanBeHad (u : UnitModel) (i : ℕ) (c : Claim) (all : List (L
 
 pub record Sound (u : UnitModel) : Type 0 where
   pub marks : (i : ℕ) (c : Claim) → slice_get u.claims i ≡ Some c → MarkIsTrue u.meaning c
-  pub state : (s : List ℕ) → stands u.phase ≡ Some s → StandingIsTrue u s
+  pub state : (s : List ℕ) → standing_state u.phase ≡ Some s → StandingIsTrue u s
   pub evidence : verdict_of u ≡ None → (all : List (List ℕ)) → Distinct all → Exactly (Reachable u.meaning) all → length all ≤ 2048 → (i : ℕ) (c : Claim) → slice_get u.claims i ≡ Some c → EvidenceCanBeHad u i c all
 
 -- Every unit that can come from the site is sound, at every point of its life.

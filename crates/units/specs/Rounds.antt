@@ -3,7 +3,7 @@ use Rattle.std.specs.Prelude.{◌≡◌, ℕ, ◌+◌, ◌<◌, false, List, [],
 use Rattle.model.specs.Meanings.{Meaning}
 use Rattle.model.specs.States.{InitialState, Successor}
 use Rattle.units.specs.Life.{Came}
-use Rattle.units.specs.Units.{UnitModel, Slip, Answer, done, refused, standing, stands, verdict_of, not_all_held, round_open, open_round, fire, end_round}
+use Rattle.units.specs.Units.{UnitModel, Slip, Answer, done, refused, standing, standing_state, verdict_of, not_all_held, round_open, open_round, fire, end_round}
 
 abbrev pub Accepted : {A : Type 0} → Answer A → Type 0
 Accepted (done a) = Unit {0}
@@ -18,7 +18,7 @@ Follows m (Some s) t = Successor m s t
 pub record EndedInOutcome (u after : UnitModel) : Type 0 where
   pub state : List ℕ
   pub stands_now : after.phase ≡ standing state
-  pub follows : Follows u.meaning (stands u.phase) state
+  pub follows : Follows u.meaning (standing_state u.phase) state
 
 abbrev pub RoundsEndOnlyInOutcomes : Type 0
 RoundsEndOnlyInOutcomes = (u : UnitModel) → Came u → (slip : Slip) → Accepted (end_round u slip).answer → EndedInOutcome u (end_round u slip).unit
@@ -51,4 +51,4 @@ pub record RoundTo (u : UnitModel) (t : List ℕ) : Type 0 where
 abbrev pub RoundsReachEveryOutcome : Type 0
 RoundsReachEveryOutcome =
     (u : UnitModel) → verdict_of u ≡ None → not_all_held u.claims ≡ false → round_open u.phase ≡ false → u.rounds < 4294967295 →
-    (t : List ℕ) → Follows u.meaning (stands u.phase) t → RoundTo u t
+    (t : List ℕ) → Follows u.meaning (standing_state u.phase) t → RoundTo u t

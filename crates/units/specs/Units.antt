@@ -89,8 +89,8 @@ kept_claims None cs = cs
 kept_claims (Some f) cs = []
 
 -- a unit made anew, idle, of a drawing and the claims brought with it
-abbrev pub made : Meaning → ℕ → ℕ → List Claim → UnitModel
-made m number rounds cs = record {
+abbrev pub fresh_unit : Meaning → ℕ → ℕ → List Claim → UnitModel
+fresh_unit m number rounds cs = record {
   meaning = m;
   number = number;
   rounds = rounds;
@@ -100,7 +100,7 @@ made m number rounds cs = record {
 }
 
 abbrev pub seal : Meaning → ℕ → UnitModel
-seal m number = made m number 0 []
+seal m number = fresh_unit m number 0 []
 
 -- Piles of units: each old unit is used up, and the new one keeps the (left) number and the larger count of rounds.
 
@@ -117,13 +117,13 @@ abbrev pub claim_joined : Claim → Claim
 claim_joined c = record { says = c.says; mark = mark_joined c.mark }
 
 abbrev pub rename_unit : UnitModel → ℕ → ℕ → UnitModel
-rename_unit u a b = made (renamed u.meaning a b) u.number u.rounds (map (claim_renamed a b) u.claims)
+rename_unit u a b = fresh_unit (renamed u.meaning a b) u.number u.rounds (map (claim_renamed a b) u.claims)
 
 abbrev pub hide_unit : UnitModel → ℕ → UnitModel
-hide_unit u n = made (hidden u.meaning n) u.number u.rounds u.claims
+hide_unit u n = fresh_unit (hidden u.meaning n) u.number u.rounds u.claims
 
 abbrev pub join_units : UnitModel → UnitModel → UnitModel
-join_units l r = made (joined l.meaning r.meaning) l.number (max l.rounds r.rounds) (map claim_joined l.claims ++ map claim_joined r.claims)
+join_units l r = fresh_unit (joined l.meaning r.meaning) l.number (max l.rounds r.rounds) (map claim_joined l.claims ++ map claim_joined r.claims)
 
 -- Claims
 
@@ -140,29 +140,29 @@ claim_sight m = record { old = λ n. is_some (m.outline.kind n); new = λ n. fal
 abbrev pub claim_reading : Meaning → List ℕ → Reading Truth
 claim_reading m bs = cond (length bs == 0 || nat_lt 64 (length bs)) (bad 0) (whole_truth 8 (claim_sight m) bs)
 
-abbrev pub read_wrong : {X : Type 0} → Reading X → Bool
-read_wrong (good x end) = false
-read_wrong (bad place) = true
+abbrev pub is_wrong_reading : {X : Type 0} → Reading X → Bool
+is_wrong_reading (good x end) = false
+is_wrong_reading (bad place) = true
 
 abbrev pub claim_refusal : UnitModel → List ℕ → Option Refusal
 claim_refusal u bs =
-    verdict_of u else if_so NotIdle (not (is_idle u.phase)) else if_so NoRoomForClaim (nat_le 8 (length u.claims)) else if_so WrongClaim (read_wrong (claim_reading u.meaning bs))
+    verdict_of u else if_so NotIdle (not (is_idle u.phase)) else if_so NoRoomForClaim (nat_le 8 (length u.claims)) else if_so WrongClaim (is_wrong_reading (claim_reading u.meaning bs))
 
 -- the claims with one more, which starts open
-abbrev pub claim_added : List Claim → Reading Truth → List Claim
-claim_added cs (good p end) = cs ++ (record { says = p; mark = open_mark } ∷ [])
-claim_added cs (bad place) = cs
+abbrev pub claims_with : List Claim → Reading Truth → List Claim
+claims_with cs (good p end) = cs ++ (record { says = p; mark = open_mark } ∷ [])
+claims_with cs (bad place) = cs
 
 -- the answer is the claim's number, from 0
 abbrev pub claim : UnitModel → List ℕ → Outcome ℕ
-claim u bs = unless (claim_refusal u bs) u (with_claims u (claim_added u.claims (claim_reading u.meaning bs))) (length u.claims)
+claim u bs = unless (claim_refusal u bs) u (with_claims u (claims_with u.claims (claim_reading u.meaning bs))) (length u.claims)
 
 -- Evidence. It is judged under any mark, in any phase.
 
-abbrev pub marked_at : ℕ → Mark → List Claim → List Claim
-marked_at i mark [] = []
-marked_at zero mark (c ∷ cs) = record { says = c.says; mark = mark } ∷ cs
-marked_at (suc i) mark (c ∷ cs) = c ∷ marked_at i mark cs
+abbrev pub claims_marked : ℕ → Mark → List Claim → List Claim
+claims_marked i mark [] = []
+claims_marked zero mark (c ∷ cs) = record { says = c.says; mark = mark } ∷ cs
+claims_marked (suc i) mark (c ∷ cs) = c ∷ claims_marked i mark cs
 
 -- what is asked of the claim with this number; refused where there is none
 abbrev pub of_claim : Option Claim → (Claim → Option Refusal) → Option Refusal
@@ -175,7 +175,7 @@ certify_refusal u i bs =
 
 -- an accepted certificate marks the claim held; the answer is the count
 abbrev pub certify : UnitModel → ℕ → List ℕ → Outcome ℕ
-certify u i bs = unless (certify_refusal u i bs) u (with_claims u (marked_at i held u.claims)) (certificate_count u.meaning (states_in bs))
+certify u i bs = unless (certify_refusal u i bs) u (with_claims u (claims_marked i held u.claims)) (certificate_count u.meaning (states_in bs))
 
 abbrev pub refute_refusal : UnitModel → ℕ → List ℕ → Option Refusal
 refute_refusal u i bs =
@@ -183,7 +183,7 @@ refute_refusal u i bs =
 
 -- an accepted run marks the claim broken; the answer is its length
 abbrev pub refute : UnitModel → ℕ → List ℕ → Outcome ℕ
-refute u i bs = unless (refute_refusal u i bs) u (with_claims u (marked_at i broken u.claims)) (length (states_in bs))
+refute u i bs = unless (refute_refusal u i bs) u (with_claims u (claims_marked i broken u.claims)) (length (states_in bs))
 
 -- Rounds
 
@@ -215,25 +215,25 @@ open_refusal u given =
     else if_so NoRoundLeft (u.rounds == 4294967295)
 
 -- the state that stands
-abbrev pub stands : Phase → Option (List ℕ)
-stands idle = None
-stands (standing s) = Some s
-stands (in_round before new fired) = before
+abbrev pub standing_state : Phase → Option (List ℕ)
+standing_state idle = None
+standing_state (standing s) = Some s
+standing_state (in_round before new fired) = before
 
 -- with no state standing the round is the initialization
-abbrev pub round_begun : UnitModel → List ℕ → UnitModel
-round_begun u given = record {
+abbrev pub with_round : UnitModel → List ℕ → UnitModel
+with_round u given = record {
   meaning = u.meaning;
   number = u.number;
   rounds = u.rounds + 1;
   crowded = u.crowded;
   claims = u.claims;
-  phase = in_round (stands u.phase) given (replicate 16 false);
+  phase = in_round (standing_state u.phase) given (replicate 16 false);
 }
 
 -- the answer is the slip, with the unit's number and the round's, from 1
 abbrev pub open_round : UnitModel → List ℕ → Outcome Slip
-open_round u given = unless (open_refusal u given) u (round_begun u given) (record { unit = u.number; round = u.rounds + 1 })
+open_round u given = unless (open_refusal u given) u (with_round u given) (record { unit = u.number; round = u.rounds + 1 })
 
 -- it is not the slip of the round that is open
 abbrev pub wrong_slip : UnitModel → Slip → Bool
@@ -275,10 +275,10 @@ abbrev pub values_made : Meaning → Option (List ℕ) → List ℕ → ℕ → 
 values_made m before new a k =
     map (λ n. cond (m.outline.controls a n) (as_value (m.acts.gives (kind_of_round before) a k n (value (old_state before)) (value new))) (value new n)) (below 32)
 
-abbrev pub fired_in : Meaning → Phase → ℕ → ℕ → Phase
-fired_in m idle a k = idle
-fired_in m (standing s) a k = standing s
-fired_in m (in_round before new fired) a k = in_round before (values_made m before new a k) (slice_set fired a true)
+abbrev pub phase_fired : Meaning → Phase → ℕ → ℕ → Phase
+phase_fired m idle a k = idle
+phase_fired m (standing s) a k = standing s
+phase_fired m (in_round before new fired) a k = in_round before (values_made m before new a k) (slice_set fired a true)
 
 -- how many atoms are yet to fire
 abbrev pub yet_to_fire : Meaning → Phase → ℕ
@@ -288,28 +288,28 @@ yet_to_fire m (in_round before new fired) = count (λ a. not (has_fired fired a)
 
 abbrev pub fire : UnitModel → Slip → ℕ → ℕ → Outcome ℕ
 fire u slip a k =
-    unless (fire_refusal u slip a k) u (with_phase u (fired_in u.meaning u.phase a k)) (yet_to_fire u.meaning (fired_in u.meaning u.phase a k))
+    unless (fire_refusal u slip a k) u (with_phase u (phase_fired u.meaning u.phase a k)) (yet_to_fire u.meaning (phase_fired u.meaning u.phase a k))
 
 -- what stands where a round is withdrawn
 abbrev pub back_to : Option (List ℕ) → Phase
 back_to None = idle
 back_to (Some s) = standing s
 
-abbrev pub withdrawn : Phase → Phase
-withdrawn idle = idle
-withdrawn (standing s) = standing s
-withdrawn (in_round before new fired) = back_to before
+abbrev pub phase_withdrawn : Phase → Phase
+phase_withdrawn idle = idle
+phase_withdrawn (standing s) = standing s
+phase_withdrawn (in_round before new fired) = back_to before
 
 -- what stands where a round is done
-abbrev pub ended : Phase → Phase
-ended idle = idle
-ended (standing s) = standing s
-ended (in_round before new fired) = standing new
+abbrev pub phase_ended : Phase → Phase
+phase_ended idle = idle
+phase_ended (standing s) = standing s
+phase_ended (in_round before new fired) = standing new
 
 -- atoms are missing. This refusal withdraws the round.
 abbrev pub end_if : Bool → UnitModel → Outcome ℕ
-end_if true u = record { unit = with_phase u (ended u.phase); answer = done 0 }
-end_if false u = record { unit = with_phase u (withdrawn u.phase); answer = refused AtomsMissing }
+end_if true u = record { unit = with_phase u (phase_ended u.phase); answer = done 0 }
+end_if false u = record { unit = with_phase u (phase_withdrawn u.phase); answer = refused AtomsMissing }
 
 -- end uses up the slip, refused or not
 abbrev pub end_round : UnitModel → Slip → Outcome ℕ
@@ -352,7 +352,7 @@ abbrev pub look : UnitModel → Shown
 look u = record {
   phase = phase_shown u.phase;
   marks = map (λ (c : Claim). c.mark) u.claims;
-  state = old_state (stands u.phase);
+  state = old_state (standing_state u.phase);
   fired = fired_shown u.phase;
   values = values_shown u.phase;
 }
