@@ -11,7 +11,7 @@ use Rattle.model.specs.declared.Kind.{Kind}
 use Rattle.model.specs.declared.Kind.TheVariants.{Private, Interface, External}
 use Rattle.model.specs.declared.Round.{Round}
 use Rattle.model.proofs.Lowest.{clear_lowest}
-use Rattle.model.proofs.Marks.{unmarked}
+use Rattle.model.proofs.Unmarked.{unmarked}
 use Rattle.model.proofs.States.{state_parts, takes_parts, yields_parts}
 use Rattle.theory.specs.Enumerations.{below}
 use Rattle.units.specs.Sealing.{owned, is_external, at_lowest, if_so, verdict, ◌else◌}

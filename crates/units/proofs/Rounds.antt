@@ -7,7 +7,7 @@ use Rattle.model.specs.States.{value, takes, yields}
 use Rattle.model.specs.Tests.{some, lowest, count}
 use Rattle.model.specs.declared.Round.{Round}
 use Rattle.model.proofs.Lowest.{lowest_clear}
-use Rattle.model.proofs.Marks.{unmarked}
+use Rattle.model.proofs.Unmarked.{unmarked}
 use Rattle.model.proofs.States.{StateOf, state_parts, state_from, takes_parts, takes_from, yields_from}
 use Rattle.units.specs.Sealing.{is_external}
 use Rattle.units.specs.Units.{wrong_value, kind_of_round, old_state, has_fired, must_wait, as_value, values_made}
