@@ -10,7 +10,7 @@ use Rattle.units.specs.Units.{verdict_with, verdict_of, seal}
 use Rattle.units.proofs.Evidence.{else_parts}
 use Rattle.reactive.proofs.Fit.{passed, fit_exactly}
 use Rattle.reactive.proofs.Rounds.{fit_initial, fit_rounds}
-use Rattle.order.specs.Orders.{AtomsInOrder, NoneCircular, ZerosFrom}
+use Rattle.sealing.specs.Orders.{AtomsInOrder, NoneCircular, ZerosFrom}
 use Rattle.unit.specs.Kept.{OrderKept, WholeUnit}
 use Rattle.unit.specs.Models.{claim_of, model_of, fresh}
 use Rattle.unit.specs.Promises.{SealedRightly}

@@ -2,7 +2,7 @@
 use Rattle.std.specs.Prelude.{◌≡◌, ℕ, List, replicate, Some, None, Option}
 use Rattle.model.specs.Meanings.{OutlineFacts, Meaning}
 use Rattle.model.specs.declared.Fault.{Fault}
-use Rattle.order.specs.Orders.{AtomsInOrder, ZerosFrom}
+use Rattle.sealing.specs.Orders.{AtomsInOrder, ZerosFrom}
 use Rattle.unit.specs.Models.{model_of}
 use Rattle.unit.specs.declared.kept.Core.{Core}
 use Rattle.units.specs.Life.{Came}

@@ -3,7 +3,7 @@ use Rattle.std.specs.Prelude.{◌≡◌, ℕ, ◌↔◌, List, None, Option}
 use Rattle.model.specs.Meanings.{Meaning}
 use Rattle.model.specs.States.{InitialState}
 use Rattle.model.specs.declared.Fault.{Fault}
-use Rattle.order.specs.Orders.{AtomsInOrder}
+use Rattle.sealing.specs.Orders.{AtomsInOrder}
 use Rattle.reactive.specs.Modules.{module_of, Limits}
 use Rattle.reactive.specs.Reactive.{IsModule}
 use Rattle.reactive.specs.Statements.{CompletesRounds}

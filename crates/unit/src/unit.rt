@@ -10,9 +10,8 @@ ghost use Rattle.std.specs.Option.{is_none};
 use crate::claims::{Claim, Claims, Mark};
 use crate::kept::Core;
 use crate::phase::Phase;
-use fitness::judge;
 use model::{Drawing, Fault, Row};
-use order::order_of;
+use sealing::{judge, order_of};
 
 // The number of the refusal of a unit that was joined with more than eight claims.
 const CROWDED: u8 = 37;

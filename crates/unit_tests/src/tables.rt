@@ -2,9 +2,8 @@
 ghost use Rattle.std.specs.Prelude.{◌≤◌};
 
 use crate::parts::seals;
-use fitness::{outside_at, stuck_at};
+use sealing::{Witness, outside_at, stuck_at};
 use model::{Fault, Round};
-use sights::Sight;
 use table::Table;
 
 // So many external names of one top, and no atoms.
@@ -107,7 +106,7 @@ fn control_and_choices(rt: HostRuntime) {
 }
 
 // Is this an update at this old value of name 0?
-fn is_update_at(sight: Option<Sight>, old: u8) -> bool {
+fn is_update_at(sight: Option<Witness>, old: u8) -> bool {
     sight.is_some_and(|sight| sight.round == Round::Update && sight.old[0] == old)
 }
 

@@ -17,7 +17,7 @@ use Rattle.wording.specs.declared.facts.Variable.{Variable}
 use Rattle.wording.specs.declared.verdict.Age.{Age}
 use Rattle.wording.specs.declared.verdict.Age.TheVariants.{Old, New}
 use Rattle.wording.specs.declared.verdict.Seen.{Seen}
-use Rattle.sights.specs.declared.sight.Sight.{Sight}
+use Rattle.sealing.specs.declared.witness.Witness.{Witness}
 
 -- the number, layer and place of a fault, or zeros
 abbrev pub numbers_or_zeros : Option Fault → List ℕ
@@ -71,5 +71,5 @@ abbrev pub values_of : Age → (ℕ → Bool) → List ℕ → List Seen
 values_of age names state = map (λ n. record { age = age; name = n; value = value state n }) (filter names (range_with_len 0 32))
 
 -- the old values of the names that are read, then the new ones of those that are awaited
-abbrev pub seen_values : (ℕ → Bool) → (ℕ → Bool) → Sight → List Seen
+abbrev pub seen_values : (ℕ → Bool) → (ℕ → Bool) → Witness → List Seen
 seen_values reads awaits sight = values_of Old reads sight.old ++ values_of New awaits sight.new

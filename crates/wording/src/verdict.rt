@@ -5,10 +5,9 @@ ghost use Rattle.std.specs.Prelude.{◌≡◌, IfOk};
 
 use crate::opening::FaultNumbers;
 use crate::rules::{Rule, Words};
-use fitness::{outside_at, stuck_at};
+use sealing::{Witness, outside_at, stuck_at};
 use model::{Drawing, Fault, Names, Outline, Round, value_of};
 use notation::Listed;
-use sights::Sight;
 use std::alloc::{AllocError, Global};
 use std::fmt;
 
@@ -43,7 +42,7 @@ fn seen_values(
     heap: Global,
     reads: &Names,
     awaits: &Names,
-    sight: &Sight,
+    sight: &Witness,
 ) -> Result<Vec<Seen>, AllocError>
     ensures { IfOk result (λ v. v.items ≡ seen_values (has reads.now) (has awaits.now) sight.now) }
 {
@@ -65,7 +64,7 @@ fn sight_words<D: Outline>(
     heap: Global,
     drawing: &D,
     atom: u8,
-    sight: &Sight,
+    sight: &Witness,
 ) -> Result<String, AllocError> {
     let (round, reads) = match sight.round {
         Round::Initial => ("initialization", Names::none()),

@@ -1,5 +1,5 @@
 use Rattle.std.proofs.Common.{sym, ap, ◌∙◌, subst}
-use Rattle.order.specs.Orders.{AtomsInOrder, ZerosFrom}
+use Rattle.sealing.specs.Orders.{AtomsInOrder, ZerosFrom}
 use Rattle.unit.proofs.Sealed.{no_circle, kept_fit, kept_unfit}
 use Rattle.unit.proofs.unit.made.Goals as goal
 use Rattle.unit.proofs.unit.made.Goals.{in-None, in-Some}

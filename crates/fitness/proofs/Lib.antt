@@ -1,4 +1,0 @@
-pub mod Failing
-pub mod Limits
-pub mod Tables
-pub mod Through

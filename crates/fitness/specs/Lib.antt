@@ -1,4 +1,0 @@
-pub mod Checks
-pub mod Factors
-pub mod Steps
-pub mod Witnesses

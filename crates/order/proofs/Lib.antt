@@ -1,3 +1,0 @@
-pub mod Acyclic
-pub mod Placing
-mod Rest

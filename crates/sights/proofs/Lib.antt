@@ -1,3 +1,0 @@
-pub mod Bounds
-pub mod Filling
-pub mod Finding

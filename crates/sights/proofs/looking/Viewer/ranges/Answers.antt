@@ -1,5 +1,0 @@
-use Rattle.std.proofs.Common.{rules}
-use Rattle.sights.proofs.looking.Viewer.ranges.Goals as goal
-
-pub returns : goal.returns
-returns g c = λ k h. search (rules, c.from_fn.ensures.items.at k 0 h)
