@@ -2,7 +2,7 @@
 -- itself.
 use Rattle.std.specs.Prelude.{ℕ, ◌+◌, max}
 use Rattle.composition.specs.Meanings.{renamed, hidden, joined}
-use Rattle.gates.specs.Drawn.{meaning_of as gates_meaning}
+use Rattle.gates.specs.GateLists.{meaning_of as gates_meaning}
 use Rattle.gates.specs.declared.list.GateList.{GateList}
 use Rattle.model.specs.Meanings.{OutlineFacts, Meaning}
 use Rattle.table.specs.Kept.{meaning_of as table_meaning}

@@ -2,7 +2,7 @@
 use Rattle.std.specs.Prelude.{ℕ, ◌+◌, List, [], ◌∷◌, ◌++◌, take, drop, replicate, Some, None, Option, slice_set}
 use Rattle.std.specs.List.{flat_map}
 use Rattle.composition.specs.Meanings.{renamed, hidden, joined}
-use Rattle.gates.specs.OpenedLaws.{gates_meaning}
+use Rattle.gates.specs.Meanings.{gates_meaning}
 use Rattle.language.specs.TableLaws.{table_meaning}
 use Rattle.model.specs.Meanings.{Meaning}
 use Rattle.model.specs.declared.Fault.{Fault}

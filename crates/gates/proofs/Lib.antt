@@ -1,3 +1,3 @@
 pub mod Behaviour
-pub mod Opening
+pub mod Records
 pub mod Works

@@ -1,6 +1,6 @@
 -- A gate list's initial states and successors are those in which its gates have worked.
-use Rattle.std.proofs.Common.{◌≡◌, ℕ, zero, suc, ◌/◌, ◌<◌, ◌≤◌, true, false, cond, eqb, ltb, ◌↔◌, List, [], ◌∷◌, length, pos, is_some, Some, None, Option, Result, Ok, Err, sym, refl, ap, ◌∙◌, subst, arith}
-use Rattle.std.proofs.lemmas.Bool.{and_parts, eqb-true, ltb-true, cond-true}
+use Rattle.std.proofs.Common.{◌≡◌, ℕ, zero, suc, ◌/◌, ◌<◌, ◌≤◌, true, false, cond, eqb, ltb, ◌↔◌, List, [], ◌∷◌, length, pos, is_some, Some, None, Option, sym, refl, ap, ◌∙◌, subst, arith}
+use Rattle.std.proofs.lemmas.Bool.{and_parts, eqb-true, cond-true}
 use Rattle.std.proofs.lemmas.Option.{slice_get_within}
 use Rattle.std.specs.List.{AllByRecursion as All, slice_get}
 use Rattle.model.specs.Meanings.{Valuation, Meaning}
@@ -8,19 +8,18 @@ use Rattle.model.specs.States.{value, is_state, yields, nothing, InitialState, S
 use Rattle.model.specs.declared.Kind.{Kind}
 use Rattle.model.specs.declared.Round.{Round}
 use Rattle.model.specs.declared.Round.TheVariants.{Initial, Update}
+use Rattle.model.proofs.Meanings.{meanings_equal}
 use Rattle.model.proofs.States.{state_parts, Taken, takes_parts, takes_from, yields_parts, yields_from}
 use Rattle.gates.specs.Behaviour.{Works, GatesWork, gates_of}
-use Rattle.gates.specs.Drawn.{meaning_of, found_laws}
-use Rattle.gates.specs.GateLists.{Opened, opened, opened_at, fault_place, parts_upto}
-use Rattle.gates.specs.Gates.{all_small, small, target, controls_of, choices_of, opens_of, gives_of}
-use Rattle.gates.specs.Laws.{list_meaning, small_nth, nth_some, controls_target}
-use Rattle.gates.specs.Meaning.{kind_in, list_outline, told, given_to}
-use Rattle.gates.specs.OpenedLaws.{opened_laws}
-use Rattle.gates.specs.Readings.{found, reading}
-use Rattle.gates.specs.Rows.{found_parts}
-use Rattle.model.specs.declared.row.Row.{Row}
+use Rattle.gates.specs.Choices.{choice_count, opens_of, gives_of}
+use Rattle.gates.specs.Netlists.{Netlist, netlist_from, netlist_at, fault_place, parts_upto}
+use Rattle.gates.specs.Gates.{all_small, target, controls_of}
+use Rattle.gates.specs.laws.Parts.{small_nth, nth_some, controls_target, target_small}
+use Rattle.gates.specs.Facts.{kind_in, list_outline, list_choices, of_part, given_to}
+use Rattle.gates.specs.Meanings.{list_meaning}
+use Rattle.gates.specs.WellFormed.{WellFormed}
+use Rattle.gates.specs.laws.WellFormed.{well_formed}
 use Rattle.gates.specs.declared.gate.Part.{Part}
-use Rattle.gates.specs.declared.list.GateList.{GateList}
 use Rattle.gates.proofs.Behaviour.{Chosen, Bits, all_work, all_worked}
 
 all_nth : (P : Part → Type 0) (ps : List Part) → ((a : ℕ) (p : Part) → slice_get ps a ≡ Some p → P p) → All P ps
@@ -39,36 +38,33 @@ at_most_one (Some k) = omega arith
 controlled_is : (p : Part) (n : ℕ) → controls_of p n ≡ true → n ≡ target p
 controlled_is p n h = eqb-true n (target p) (and_parts (eqb n (target p)) (ltb (target p) 32) h).0
 
-target_named : (p : Part) → small p ≡ true → target p < 32
-target_named p s = ltb-true (target p) 32 (and_parts (eqb (target p) (target p)) (ltb (target p) 32) (controls_target p s)).1
-
-module _ (l : Opened) (few : length l.parts ≤ 16) (tight : all_small l.parts ≡ true) (clean : is_some l.wrong ≡ true → length l.parts ≡ 0) where
+module _ (l : Netlist) (w : WellFormed l) where
   abbrev m : Meaning
-  m = list_meaning l few tight clean
+  m = list_meaning l w
 
   bits : (t : List ℕ) → is_state (list_outline l) t ≡ true → Bits (value t)
   bits t h n = omega (arith, (state_parts (list_outline l) t h).within n, at_most_one (kind_in l.parts n))
 
   module _ (r : Round) (old new : Valuation) (a : ℕ) (p : Part) (there : slice_get l.parts a ≡ Some p) where
-    to_chosen : (k : ℕ) → k < told (choices_of r) 0 (slice_get l.parts a) → Taken m r a k old new → Chosen r old new p
+    to_chosen : (k : ℕ) → k < of_part (choice_count r) 0 (slice_get l.parts a) → Taken m r a k old new → Chosen r old new p
     to_chosen k inside taken =
-        let s = small_nth l.parts a p tight there in
-        let controls : told (λ q. controls_of q (target p)) false (slice_get l.parts a) ≡ true = ap (told (λ q. controls_of q (target p)) false) there ∙ controls_target p s in
-        let gave : given_to r k (target p) old p ≡ pos (new (target p)) = subst (λ o. told (given_to r k (target p) old) (pos 0) o ≡ pos (new (target p))) there (taken.given (target p) (target_named p s) controls) in
+        let s = small_nth l.parts a p w.named there in
+        let controls : of_part (λ q. controls_of q (target p)) false (slice_get l.parts a) ≡ true = ap (of_part (λ q. controls_of q (target p)) false) there ∙ controls_target p s in
+        let gave : given_to r k (target p) old p ≡ pos (new (target p)) = subst (λ o. of_part (given_to r k (target p) old) (pos 0) o ≡ pos (new (target p))) there (taken.given (target p) (target_small p s) controls) in
         let whole : cond (controls_of p (target p)) (gives_of r p k old) 0 ≡ new (target p) = cc in
         record {
           choice = k;
-          there = subst (λ o. k < told (choices_of r) 0 o) there inside;
-          opens = subst (λ o. told (λ q. opens_of r q k new) false o ≡ true) there taken.opened;
+          there = subst (λ o. k < of_part (choice_count r) 0 o) there inside;
+          opens = subst (λ o. of_part (λ q. opens_of r q k new) false o ≡ true) there taken.opened;
           gives = sym (cond-true (controls_of p (target p)) (gives_of r p k old) 0 (controls_target p s)) ∙ whole;
         }
 
     from_chosen : (c : Chosen r old new p) → Taken m r a c.choice old new
     from_chosen c = record {
-      opened = subst (λ o. told (λ q. opens_of r q c.choice new) false o ≡ true) (sym there) c.opens;
+      opened = subst (λ o. of_part (λ q. opens_of r q c.choice new) false o ≡ true) (sym there) c.opens;
       given = λ n b h.
-          let here = subst (λ o. told (λ q. controls_of q n) false o ≡ true) there h in
-          ap (told (given_to r c.choice n old) (pos 0)) there ∙ ap pos (cond-true (controls_of p n) (gives_of r p c.choice old) 0 here ∙ c.gives ∙ ap new (sym (controlled_is p n here)));
+          let here = subst (λ o. of_part (λ q. controls_of q n) false o ≡ true) there h in
+          ap (of_part (given_to r c.choice n old) (pos 0)) there ∙ ap pos (cond-true (controls_of p n) (gives_of r p c.choice old) 0 here ∙ c.gives ∙ ap new (sym (controlled_is p n here)));
     }
 
   to_parts : (r : Round) (s t : List ℕ) → yields m r s t ≡ true → All (Chosen r (value s) (value t)) l.parts
@@ -82,31 +78,32 @@ module _ (l : Opened) (few : length l.parts ≤ 16) (tight : all_small l.parts �
       (λ a b.
       let found = nth_some l.parts a b in
       let c = nth_all (Chosen r (value s) (value t)) l.parts a found.0 all found.1 in
-      (c.choice, subst (λ o. c.choice < told (choices_of r) 0 o) (sym found.1) c.there, takes_from m r a c.choice (value s) (value t) (from_chosen r (value s) (value t) a found.0 found.1 c)))
+      (c.choice, subst (λ o. c.choice < of_part (choice_count r) 0 o) (sym found.1) c.there, takes_from m r a c.choice (value s) (value t) (from_chosen r (value s) (value t) a found.0 found.1 c)))
 
   -- beside no fault, both kinds of round lead where the gates have worked
-  yields_works : (bs : List ℕ) → l ≡ opened bs → fault_place bs ≡ None → (r : Round) (s t : List ℕ) → (yields m r s t ≡ true) ↔ ((is_state (list_outline l) t ≡ true) × All (Works r (value s) (value t)) (gates_of bs))
+  yields_works : (bs : List ℕ) → l ≡ netlist_from bs → fault_place bs ≡ None → (r : Round) (s t : List ℕ) → (yields m r s t ≡ true) ↔ ((is_state (list_outline l) t ≡ true) × All (Works r (value s) (value t)) (gates_of bs))
   yields_works bs e fine r s t =
-      let same : l.parts ≡ parts_upto bs (length bs / 5) = ap (λ (o : Opened). o.parts) (e ∙ ap (λ o. opened_at o bs) fine) in (
+      let same : l.parts ≡ parts_upto bs (length bs / 5) = ap (λ (o : Netlist). o.parts) (e ∙ ap (λ o. netlist_at o bs) fine) in (
         λ h.
             let state = (yields_parts m r s t h).0 in
             (state, all_work (value s) (value t) (bits t state) r (gates_of bs) (subst (All (Chosen r (value s) (value t))) same (to_parts r s t h))),
         λ h. from_parts r s t h.0 (subst (All (Chosen r (value s) (value t))) (sym same) (all_worked (value s) (value t) (bits t h.0) r (gates_of bs) h.1)),
       )
 
--- what is opened names only names
-pub small_found : (r : Result (Row Part 16) ℕ) (bs : List ℕ) → found r ≡ opened bs → all_small (found_parts r) ≡ true
-small_found (Ok row) bs e = ap (λ (o : Opened). all_small o.parts) e ∙ (opened_laws bs).tight
-small_found (Err place) bs e = refl
-
-pub gates_work : (g : GateList) (bs : List ℕ) → reading g ≡ opened bs → GatesWork bs (meaning_of g)
-gates_work g bs e = record {
+-- gates work in any list that says what the bytes do
+pub gates_work : (bs : List ℕ) (l : Netlist) (w : WellFormed l) → l ≡ netlist_from bs → GatesWork bs (list_meaning l w)
+gates_work bs l w e = record {
   initially = λ fine t.
-      let laws = found_laws g.found g.small in
-      let both = yields_works (reading g) laws.few laws.tight laws.clean bs e fine Initial nothing t in
-      (λ (h : InitialState (meaning_of g) t). both.0 h.yielded, λ h. record { yielded = both.1 h });
+      let both = yields_works l w bs e fine Initial nothing t in
+      (λ (h : InitialState (list_meaning l w) t). both.0 h.yielded, λ h. record { yielded = both.1 h });
   later = λ fine s t.
-      let laws = found_laws g.found g.small in
-      let both = yields_works (reading g) laws.few laws.tight laws.clean bs e fine Update s t in
-      (λ (h : Successor (meaning_of g) s t). both.0 h.yielded, λ h. record { yielded = both.1 h });
+      let both = yields_works l w bs e fine Update s t in
+      (λ (h : Successor (list_meaning l w) s t). both.0 h.yielded, λ h. record { yielded = both.1 h });
 }
+
+-- what is said alone makes the meaning
+pub same_meaning : (l m : Netlist) (v : WellFormed l) (w : WellFormed m) → l ≡ m → list_meaning l v ≡ list_meaning m w
+same_meaning l m v w e = meanings_equal (list_meaning l v) (list_meaning m w) (ap list_outline e) (ap list_choices e)
+
+pub named_from : (l : Netlist) (bs : List ℕ) → l ≡ netlist_from bs → all_small l.parts ≡ true
+named_from l bs e = ap (λ (m : Netlist). all_small m.parts) e ∙ (well_formed bs).named

@@ -5,7 +5,7 @@ use Rattle.model.specs.Meanings.{Valuation, Meaning}
 use Rattle.model.specs.States.{value, is_state, InitialState, Successor, nothing}
 use Rattle.model.specs.declared.Round.{Round}
 use Rattle.model.specs.declared.Round.TheVariants.{Initial, Update}
-use Rattle.gates.specs.GateLists.{fault_place, gates_upto}
+use Rattle.gates.specs.Netlists.{fault_place, gates_upto}
 use Rattle.gates.specs.declared.gate.Gate.{Gate}
 use Rattle.gates.specs.declared.gate.Gate.TheVariants.{Not, And, Latch}
 

@@ -1,76 +1,18 @@
--- Gate lists: what the bytes of one say, and what is wrong with them.
-use Rattle.std.specs.Prelude.{ℕ, zero, suc, ◌+◌, ◌*◌, ◌/◌, ◌%◌, Bool, true, false, cond, not, ◌&&◌, ◌||◌, List, [], ◌++◌, length, is_some, Some, None, Option, ◌==◌, nat_lt, slice_index}
-use Rattle.std.specs.Option.{option_to_list}
-use Rattle.std.specs.List.{flat_map}
-use Rattle.model.specs.Tests.{some, lowest}
-use Rattle.model.specs.declared.Fault.{Fault}
-use Rattle.gates.specs.Gates.{gate_of, parts_of}
-use Rattle.gates.specs.declared.gate.Gate.{Gate}
-use Rattle.gates.specs.declared.gate.Gate.TheVariants.{Not, And, Latch}
-use Rattle.gates.specs.declared.gate.Part.{Part}
+-- An opened gate list as a drawing.
+use Rattle.model.specs.Meanings.{OutlineFacts, Meaning}
+use Rattle.gates.specs.Facts.{list_outline}
+use Rattle.gates.specs.Meanings.{list_meaning}
+use Rattle.gates.specs.Netlists.{Netlist}
+use Rattle.gates.specs.Rows.{netlist_in}
+use Rattle.gates.specs.laws.Kept.{kept}
+use Rattle.gates.specs.declared.list.GateList.{GateList}
 
-abbrev pub byte : List ℕ → ℕ → ℕ
-byte bs k = slice_index bs k
+-- what an opened gate list says
+abbrev pub netlist_of : GateList → Netlist
+netlist_of g = netlist_in g.contents
 
--- Record i is the five bytes from place 5 i on: kind, a, b, out, own. This is its gate, if it is well formed.
-abbrev pub gate_at : List ℕ → ℕ → Option Gate
-gate_at bs i = gate_of (byte bs (5 * i)) (byte bs (5 * i + 1)) (byte bs (5 * i + 2)) (byte bs (5 * i + 3)) (byte bs (5 * i + 4))
+abbrev pub outline_of : GateList → OutlineFacts
+outline_of g = list_outline (netlist_of g)
 
--- records i and j have one out
-abbrev pub same_out : List ℕ → ℕ → ℕ → Bool
-same_out bs i j = byte bs (5 * j + 3) == byte bs (5 * i + 3)
-
--- the byte at place k is another field a, b, out or own of the list than record i's own, with the same number in it
-abbrev pub same_own : List ℕ → ℕ → ℕ → Bool
-same_own bs i k = not (k % 5 == 0) && not (k == 5 * i + 4) && byte bs k == byte bs (5 * i + 4)
-
-abbrev pub is_latch : Option Gate → Bool
-is_latch None = false
-is_latch (Some (Not a out)) = false
-is_latch (Some (And a b out)) = false
-is_latch (Some (Latch set reset out own)) = true
-
--- the gates of the first n records
-unfoldable pub gates_upto : List ℕ → ℕ → List Gate
-gates_upto bs zero = []
-gates_upto bs (suc n) = gates_upto bs n ++ option_to_list (gate_at bs n)
-
--- the atoms of the first n records
-abbrev pub parts_upto : List ℕ → ℕ → List Part
-parts_upto bs n = flat_map parts_of (gates_upto bs n)
-
--- Record i breaks a rule: it is not well formed, an earlier record has its out, it is a latch whose own some other
--- field has, or with it there are more than 16 atoms.
-abbrev pub breaks : List ℕ → ℕ → Bool
-breaks bs i =
-    not (is_some (gate_at bs i)) || some (same_out bs i) i || is_latch (gate_at bs i) && some (same_own bs i) (length bs) || nat_lt 16 (length (parts_upto bs (suc i)))
-
--- The place of the fault: 0 where the length is no multiple of five, else the first byte of the first record that
--- breaks a rule.
-abbrev pub first_record : Option ℕ → Option ℕ
-first_record None = None
-first_record (Some i) = Some (5 * i)
-
-abbrev pub fault_place : List ℕ → Option ℕ
-fault_place bs = cond (length bs % 5 == 0) (first_record (lowest (breaks bs) (length bs / 5))) (Some 0)
-
--- every fault of a gate list has the number 18
-abbrev pub list_fault : Option ℕ → Option Fault
-list_fault None = None
-list_fault (Some place) = Some (record { number = 18; layer = 0; place = place })
-
--- What an opened list holds: the place of its fault if any, and its atoms, of which there are none beside a fault.
-pub record Opened : Type 0 where
-  pub wrong : Option ℕ
-  pub parts : List Part
-
-abbrev pub faulty : ℕ → Opened
-faulty place = record { wrong = Some place; parts = [] }
-
-abbrev pub opened_at : Option ℕ → List ℕ → Opened
-opened_at None bs = record { wrong = None; parts = parts_upto bs (length bs / 5) }
-opened_at (Some place) bs = faulty place
-
--- what opening these bytes gives
-abbrev pub opened : List ℕ → Opened
-opened bs = opened_at (fault_place bs) bs
+abbrev pub meaning_of : GateList → Meaning
+meaning_of g = list_meaning (netlist_of g) (kept g.contents g.named)

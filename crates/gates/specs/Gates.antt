@@ -1,10 +1,7 @@
 -- Gates and the atoms that they are made of.
 use Rattle.std.specs.Prelude.{◌≡◌, ℕ, Bool, false, cond, ◌&&◌, ◌||◌, List, [], ◌∷◌, Some, None, Option, Result, MatchResult, ◌==◌, nat_lt, slice_index}
 use Rattle.std.specs.List.{list_any, list_all}
-use Rattle.model.specs.Meanings.{Valuation}
 use Rattle.model.specs.Sets.{is_name}
-use Rattle.model.specs.declared.Round.{Round}
-use Rattle.model.specs.declared.Round.TheVariants.{Initial, Update}
 use Rattle.gates.specs.declared.gate.Field.{Field}
 use Rattle.gates.specs.declared.gate.Field.TheVariants.{Input, Out, Own}
 use Rattle.gates.specs.declared.gate.Gate.{Gate}
@@ -71,35 +68,6 @@ awaits_of (Inverter a out) n = is_name a n
 awaits_of (Conjunction a b out) n = is_name a n || is_name b n
 awaits_of (LatchOutput out own) n = false
 awaits_of (LatchStore set reset own) n = is_name set n || is_name reset n
-
-abbrev pub choices_of : Round → Part → ℕ
-choices_of r (Inverter a out) = 2
-choices_of r (Conjunction a b out) = 3
-choices_of Initial (LatchOutput out own) = 2
-choices_of Update (LatchOutput out own) = 1
-choices_of r (LatchStore set reset own) = 3
-
--- Where choice k is open. NOT has a choice for each value of its input; AND one for each input that is 0, and one for
--- both at 1; a latch's output may come up either way, and its store has one for set, one for reset, one for neither.
-abbrev pub opens_of : Round → Part → ℕ → Valuation → Bool
-opens_of r (Inverter a out) k new = k == 0 && new a == 0 || k == 1 && new a == 1
-opens_of r (Conjunction a b out) k new = k == 0 && new a == 0 || k == 1 && new b == 0 || k == 2 && (new a == 1 && new b == 1)
-opens_of Initial (LatchOutput out own) k new = nat_lt k 2
-opens_of Update (LatchOutput out own) k new = k == 0
-opens_of r (LatchStore set reset own) k new = k == 0 && (new set) == 1 || k == 1 && new reset == 1 || k == 2 && ((new set) == 0 && new reset == 0)
-
--- what a latch has stored before the round: nothing, told as 0, before the first
-abbrev pub stored : Round → ℕ → Valuation → ℕ
-stored Initial own old = 0
-stored Update own old = old own
-
--- what choice k gives to the name that the part controls
-abbrev pub gives_of : Round → Part → ℕ → Valuation → ℕ
-gives_of r (Inverter a out) k old = cond (k == 0) 1 0
-gives_of r (Conjunction a b out) k old = cond (k == 2) 1 0
-gives_of Initial (LatchOutput out own) k old = cond (k == 1) 1 0
-gives_of Update (LatchOutput out own) k old = cond (k == 0) (old own) 0
-gives_of r (LatchStore set reset own) k old = cond (k == 0) 1 (cond (k == 2) (stored r own old) 0)
 
 -- each name of the part is a name
 abbrev pub small : Part → Bool

@@ -1,10 +1,10 @@
 pub mod Behaviour
-pub mod Drawn
+pub mod Choices
+pub mod Facts
 pub mod GateLists
 pub mod Gates
-pub mod Laws
-pub mod Meaning
-pub mod OpenedLaws
-pub mod Readings
-pub mod Records
+pub mod Meanings
+pub mod Netlists
 pub mod Rows
+pub mod WellFormed
+pub mod laws

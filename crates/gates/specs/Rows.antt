@@ -1,15 +1,25 @@
--- Rows of parts, and what is found of a list: its parts, or the place of its fault.
-use Rattle.std.specs.Prelude.{◌≡◌, ◌<◌, ℕ, List, [], ◌++◌, length, Result, Ok, Err, MatchResult}
+-- What is found and kept while a gate list is read.
+use Rattle.std.specs.Prelude.{◌≡◌, ◌*◌, ◌<◌, ◌⊎◌, ℕ, Bool, List, ◌++◌, length, IsTrue, Some, None, Result, Ok, Err, MatchResult}
 use Rattle.model.specs.Rows.{listed}
 use Rattle.model.specs.declared.row.Full.{Full}
 use Rattle.model.specs.declared.row.Row.{Row}
+use Rattle.gates.specs.Netlists.{Netlist, faulty, is_latch, same_out, same_own}
+use Rattle.gates.specs.declared.gate.Gate.{Gate}
 use Rattle.gates.specs.declared.gate.Part.{Part}
 
--- the row has more parts at its end, or there would be more than 16
+-- the row has more atoms at its end, or there would be more than 16
 abbrev pub Grown : Row Part 16 → List Part → Row Part 16 → Result (Unit {0}) Full → Type 0
 Grown old more new r = MatchResult r (λ _. listed new ≡ listed old ++ more) (λ _. 16 < length (listed old ++ more))
 
--- the parts that were found, of which there are none beside a fault
-abbrev pub found_parts : Result (Row Part 16) ℕ → List Part
-found_parts (Ok row) = listed row
-found_parts (Err place) = []
+-- the atoms of a list without fault, or the place of the fault and no atoms
+abbrev pub netlist_in : Result (Row Part 16) ℕ → Netlist
+netlist_in (Ok row) = record { fault_place = None; parts = listed row }
+netlist_in (Err place) = faulty place
+
+-- the test passes at some number below n
+abbrev pub Found : (ℕ → Bool) → ℕ → Type 0
+Found p n = (i : ℕ) × (i < n) × IsTrue (p i)
+
+-- an earlier record has the out of record i, or it is a latch and some other field has its own
+abbrev pub Clashes : List ℕ → ℕ → Gate → Type 0
+Clashes bs i g = Found (same_out bs i) (5 * i) ⊎ (IsTrue (is_latch (Some g)) × Found (same_own bs i) (length bs))

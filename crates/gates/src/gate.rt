@@ -1,6 +1,7 @@
 //! The gates, and the atoms that they are made of.
 ghost use Rattle.std.specs.Prelude.{◌≡◌, ℕ};
-ghost use Rattle.gates.specs.Gates.{Describes, uses, controls_of, reads_of, awaits_of, choices_of, opens_of, gives_of};
+ghost use Rattle.gates.specs.Choices.{choice_count, opens_of, gives_of};
+ghost use Rattle.gates.specs.Gates.{Describes, uses, controls_of, reads_of, awaits_of};
 ghost use Rattle.model.specs.Sets.{has};
 ghost use Rattle.model.specs.States.{value};
 
@@ -8,19 +9,21 @@ use model::{Names, Round, State, value_of};
 use std::error::Error;
 use std::fmt;
 
-/// A gate by the names of its wires. A latch stores a bit under a name of its own: `set` turns it on,
-/// `reset` off, and `out` shows what was stored.
+/// A gate by the names of its wires, 0 to 31 each.
 #[derive(Clone, Copy, PartialEq, Eq, Debug)]
 pub enum Gate {
+    /// `out` is the negation of `a`.
     Not {
         a: u8,
         out: u8,
     },
+    /// `out` is the conjunction of `a` and `b`.
     And {
         a: u8,
         b: u8,
         out: u8,
     },
+    /// A bit stored under the name `own`: `set` turns it on, `reset` off, and `out` shows what was stored.
     Latch {
         set: u8,
         reset: u8,
@@ -65,24 +68,32 @@ impl TryFrom<[u8; 5]> for Gate {
     }
 }
 
-/// One atom of a gate. NOT and AND are one atom each; a latch is two, its output and its store.
+/// One atom of a gate, by the names of the wires that it touches.
 #[derive(Clone, Copy, PartialEq, Eq, Debug)]
 pub enum Part {
+    /// The atom of a NOT.
     Inverter { a: u8, out: u8 },
+    /// The atom of an AND.
     Conjunction { a: u8, b: u8, out: u8 },
+    /// The first atom of a latch, which shows the bit stored before the round.
     LatchOutput { out: u8, own: u8 },
+    /// The second atom of a latch, which stores its bit.
     LatchStore { set: u8, reset: u8, own: u8 },
 }
 
 /// The places at which a gate can name a wire.
 #[derive(Clone, Copy, PartialEq, Eq, Debug)]
 pub enum Field {
+    /// An input of a gate, or a latch's set or reset.
     Input,
+    /// What a gate shows.
     Out,
+    /// What a latch keeps for itself.
     Own,
 }
 
 impl Part {
+    /// Does the part name the wire in such a field?
     pub fn uses(self, field: Field, name: u8) -> bool
         ensures { result ≡ uses field self name }
     {
@@ -102,6 +113,7 @@ impl Part {
         }
     }
 
+    /// The name that the part controls, alone in a set.
     pub fn controls(self) -> Names
         ensures { (n : ℕ) → has result n ≡ controls_of self n }
     {
@@ -113,6 +125,7 @@ impl Part {
         }
     }
 
+    /// The names whose old values the part sees.
     pub fn reads(self) -> Names
         ensures { (n : ℕ) → has result n ≡ reads_of self n }
     {
@@ -122,6 +135,7 @@ impl Part {
         }
     }
 
+    /// The names whose new values the part sees.
     pub fn awaits(self) -> Names
         ensures { (n : ℕ) → has result n ≡ awaits_of self n }
     {
@@ -133,8 +147,9 @@ impl Part {
         }
     }
 
+    /// How many choices the part has in such a round, 1 to 3.
     pub fn choices(self, round: Round) -> u8
-        ensures { result ≡ choices_of round self }
+        ensures { result ≡ choice_count round self }
     {
         match (self, round) {
             (Part::Inverter { .. }, _) | (Part::LatchOutput { .. }, Round::Initial) => 2,
@@ -143,6 +158,7 @@ impl Part {
         }
     }
 
+    /// Is the choice open at these new values? One that is not there is closed.
     pub fn is_open(self, round: Round, choice: u8, new: State) -> bool
         ensures { result ≡ opens_of round self choice (value new) }
     {
@@ -162,7 +178,7 @@ impl Part {
         }
     }
 
-    /// What the choice gives to the name that the part controls.
+    /// What the choice gives to the name that the part controls, by these old values. One that is not there gives 0.
     pub fn gives(self, round: Round, choice: u8, old: State) -> u8
         ensures { result ≡ gives_of round self choice (value old) }
     {

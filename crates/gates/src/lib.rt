@@ -3,6 +3,7 @@
 
 mod gate;
 mod list;
+mod reading;
 
 pub use gate::{Field, Gate, Malformed, Part};
 pub use list::GateList;

@@ -1,4 +1,4 @@
--- What is read of a gate list without fault has at most 16 atoms, with names in them; so any bytes have a meaning.
+-- What any bytes say as a gate list is well formed.
 use Rattle.std.specs.Prelude.{◌≡◌, ℕ, zero, suc, ◌+◌, ◌*◌, ◌/◌, ◌%◌, ◌≤◌, Bool, true, false, cond, not, ◌&&◌, List, [], ◌++◌, length, is_some, Some, None, Option, ◌==◌, nat_lt, refl}
 use Rattle.std.proofs.Common.{sym, ap, subst, ◌∙◌, arith}
 use Rattle.std.proofs.lemmas.Grind.{flat_map-append}
@@ -8,12 +8,11 @@ use Rattle.std.proofs.lemmas.Bool.Decides.{nat_tests}
 use Rattle.std.proofs.lemmas.Bool.{and_from, or_parts, ltb-false, both_ways}
 use Rattle.std.specs.Option.{option_to_list}
 use Rattle.std.specs.List.{flat_map}
-use Rattle.model.specs.Meanings.{Meaning}
 use Rattle.model.specs.Tests.{lowest}
 use Rattle.model.proofs.Lowest.{Clear, lowest_clear}
-use Rattle.gates.specs.GateLists.{Opened, byte, gate_at, gates_upto, parts_upto, breaks, first_record, fault_place, opened, opened_at}
+use Rattle.gates.specs.Netlists.{byte, gate_at, gates_upto, parts_upto, breaks, first_record, fault_place, netlist_from, netlist_at}
 use Rattle.gates.specs.Gates.{gate_of, parts_of, small, all_small}
-use Rattle.gates.specs.Laws.{list_meaning}
+use Rattle.gates.specs.WellFormed.{WellFormed}
 use Rattle.gates.specs.declared.gate.Gate.{Gate}
 use Rattle.gates.specs.declared.gate.Gate.TheVariants.{Not, And, Latch}
 
@@ -80,23 +79,13 @@ no_break bs e = go (length bs % 5 == 0) e
     go true h = lowest_clear (breaks bs) (length bs / 5) (from _ h)
     go false h = let z : ◌≡◌ {A = ℕ} 0 1 = cc in absurd (omega arith)
 
--- the laws of what is opened
-pub record OpenedLaws (l : Opened) : Type 0 where
-  pub few : length l.parts ≤ 16
-  pub tight : all_small l.parts ≡ true
-  pub clean : is_some l.wrong ≡ true → length l.parts ≡ 0
-
-pub opened_laws : (bs : List ℕ) → OpenedLaws (opened bs)
-opened_laws bs = go (fault_place bs) refl
+pub well_formed : (bs : List ℕ) → WellFormed (netlist_from bs)
+well_formed bs = go (fault_place bs) refl
   where
-    go : (o : Option ℕ) → fault_place bs ≡ o → OpenedLaws (opened_at o bs)
+    go : (o : Option ℕ) → fault_place bs ≡ o → WellFormed (netlist_at o bs)
     go None e = record {
       few = few_upto bs (length bs / 5) (no_break bs e);
-      tight = small_upto bs (length bs / 5) (no_break bs e);
-      clean = λ h. absurd (both_ways false refl h);
+      named = small_upto bs (length bs / 5) (no_break bs e);
+      empty_if_faulty = λ h. absurd (both_ways false refl h);
     }
-    go (Some place) e = record { few = omega arith; tight = refl; clean = λ h. refl }
-
--- what the gate list that these bytes hold means
-abbrev pub gates_meaning : List ℕ → Meaning
-gates_meaning bs = list_meaning (opened bs) (opened_laws bs).few (opened_laws bs).tight (opened_laws bs).clean
+    go (Some place) e = record { few = omega arith; named = refl; empty_if_faulty = λ h. refl }
