@@ -92,8 +92,6 @@ module _ (m : Meaning) where
         finite = (below 32, λ x v. (below_exact 32).complete x (m.outline_laws.names x (variable_there m x v)));
         private_or_interface = λ x p i. true≢false (ap is_private (sym p ∙ i));
         controlled_or_external = λ x c e. ⊎_elim (λ p. true≢false (ap owned (sym p ∙ e))) (λ i. true≢false (ap owned (sym i ∙ e))) c;
-        some_value = λ x v. (0, omega arith);
-        finite_values = λ x v. (below (m.outline.top x + 1), λ y l. (below_exact (m.outline.top x + 1)).complete y (omega arith));
       }
 
   pub fit_module : Passed m → IsModule (module_of m)

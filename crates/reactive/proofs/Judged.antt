@@ -4,10 +4,12 @@ use Rattle.composition.specs.Meanings.{renamed, hidden, joined}
 use Rattle.model.specs.Meanings.{Meaning}
 use Rattle.units.specs.Sealing.{verdict}
 use Rattle.reactive.specs.Modules.{module_of, Limits}
-use Rattle.reactive.specs.Reactive.{Module, IsModule, SameModule, composed, renamed_module, hidden_module}
+use Rattle.reactive.specs.Operations.{SameModule, composed, renamed_module, hidden_module}
+use Rattle.reactive.specs.Reactive.{Module, IsModule}
 use Rattle.reactive.specs.Statements.{OperationsAreJudgedRightly}
 use Rattle.reactive.proofs.Fit.{fit_exactly}
-use Rattle.reactive.proofs.Operations.{joins_are, renames_are, hides_are}
+use Rattle.reactive.proofs.Operations.{joins_are, hides_are}
+use Rattle.reactive.proofs.Renamed.{renames_are}
 use Rattle.reactive.proofs.Same.{same_modules}
 
 judged : (m : Meaning) (P : Module) → m.outline.fault ≡ None → SameModule (module_of m) P → (verdict m ≡ None) ↔ (IsModule P × Limits m)

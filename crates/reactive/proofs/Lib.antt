@@ -9,6 +9,7 @@ pub mod Leading
 pub mod Operations
 pub mod Order
 pub mod Piles
+pub mod Renamed
 pub mod Rounds
 pub mod Same
 pub mod Sorting

@@ -18,7 +18,8 @@ use Rattle.model.specs.declared.Kind.TheVariants.{Private, Interface, External}
 use Rattle.model.specs.declared.Round.TheVariants.{Initial, Update}
 use Rattle.units.specs.Sealing.{is_external}
 use Rattle.reactive.specs.Modules.{as_value, no_old, Below, Choices, Leads, atom_from, atom_of, choices_of, module_from, module_of}
-use Rattle.reactive.specs.Reactive.{Valuation, Atom, Module, Variable, under_other_names, composed, renamed_module, hidden_module, SameAtom, SameModule}
+use Rattle.reactive.specs.Operations.{renamed_set, values_before, composed, renamed_module, hidden_module, SameAtom, SameModule}
+use Rattle.reactive.specs.Reactive.{Variables, Valuation, Atom, Module, Variable}
 use Rattle.reactive.specs.Statements.{JoinsAreCompositions, RenamesAreRenamings, HidesAreHidings}
 use Rattle.reactive.proofs.States.{variable_from, variable_there}
 
@@ -103,60 +104,6 @@ module _ (m : Meaning) (name : ℕ) (interface : m.outline.kind name ≡ Some In
 pub hides_are : HidesAreHidings
 hides_are m n e =
     subst (λ f. SameModule (module_from (outline_with f (hidden_tables m.outline n)) (acts_with f m.acts)) (hidden_module (module_of m) n)) (sym e) (hidden_same m n (hides m.outline n e).interface)
-
--- Renaming
-
-module _ (c : Choices) (controls : ℕ → Bool) (a b : ℕ) where
-  -- the choices, under the exchanged names
-  abbrev renamed_below : Choices
-  renamed_below =
-      record {
-        many = c.many;
-        opens = λ k old new. c.opens k (under_other_names a b old) (under_other_names a b new);
-        gives = λ k n old new. c.gives k (exchange a b n) (under_other_names a b old) (under_other_names a b new);
-      }
-
-  renamed_leads : (old new t : Valuation) →
-      Leads renamed_below (λ n. controls (exchange a b n)) old new t ↔ Leads c controls (under_other_names a b old) (under_other_names a b new) (under_other_names a b t)
-  renamed_leads old new t = (
-    λ l. record {
-      choice = l.choice;
-      there = l.there;
-      opened = l.opened;
-      given = λ n. subst (λ j. controls j ≡ true → as_value (c.gives l.choice j (under_other_names a b old) (under_other_names a b new)) ≡ t (exchange a b n)) (exchange_twice a b n) (l.given (exchange a b n));
-    },
-    λ l. record {
-      choice = l.choice;
-      there = l.there;
-      opened = l.opened;
-      given = λ n h. l.given (exchange a b n) h ∙ ap t (exchange_twice a b n);
-    },
-  )
-
-renamed_same : (m : Meaning) (a b : ℕ) →
-    SameModule (module_from (outline_with None (renamed_tables m.outline a b)) (acts_with None (renamed_choices m.acts a b))) (renamed_module (module_of m) a b)
-renamed_same m a b =
-    record {
-      private = λ x. same_type;
-      interface = λ x. same_type;
-      external = λ x. same_type;
-      typed = λ x v _. same_type;
-      there = λ i. i;
-      back = λ i. i;
-      there_and_back = λ i. refl;
-      back_and_there = λ i. refl;
-      atoms = λ i. record {
-        controls = λ x. same_type;
-        reads = λ x. same_type;
-        awaits = λ x. same_type;
-        init = λ new t. renamed_leads (choices_of m.acts i.number Initial) (m.outline.controls i.number) a b no_old new t;
-        update = λ old new t. renamed_leads (choices_of m.acts i.number Update) (m.outline.controls i.number) a b old new t;
-      };
-    }
-
-pub renames_are : RenamesAreRenamings
-renames_are m a b e =
-    subst (λ f. SameModule (module_from (outline_with f (renamed_tables m.outline a b)) (acts_with f (renamed_choices m.acts a b))) (renamed_module (module_of m) a b)) (sym e) (renamed_same m a b)
 
 -- Joining
 

@@ -11,7 +11,8 @@ use Rattle.composition.specs.Views.{projected, exchanged}
 use Rattle.model.specs.Meanings.{Meaning}
 use Rattle.model.specs.States.{yields, nothing}
 use Rattle.model.specs.declared.Round.TheVariants.{Initial, Update}
-use Rattle.reactive.proofs.Operations.{joins_are, renames_are, hides_are}
+use Rattle.reactive.proofs.Operations.{joins_are, hides_are}
+use Rattle.reactive.proofs.Renamed.{renames_are}
 use Rattle.reactive.specs.Piles.{Composition, JoinsParts, RenamesPart, HidesPart}
 
 -- the old values that a part sees in an initialization round are none

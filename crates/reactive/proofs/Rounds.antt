@@ -8,10 +8,11 @@ use Rattle.model.specs.States.{value, is_state, nothing, InitialState, Successor
 use Rattle.model.proofs.States.{state_parts, state_from}
 use Rattle.units.specs.Sealing.{awaits_atom, awaits_through, verdict}
 use Rattle.reactive.specs.Modules.{Below, module_of}
-use Rattle.reactive.specs.Reactive.{Valuation, Agree, Variable, IsModule, Consistent, IsOrder, IsState, Initially, Follows}
+use Rattle.reactive.specs.Execution.{Consistent, IsOrder, CanBeCompleted}
+use Rattle.reactive.specs.Reactive.{Valuation, Agree, Variable, IsModule, IsState, IsInitial, Follows}
 use Rattle.reactive.specs.Statements.{Row, SameOutside, FitUnitsHaveAnOrder, FitUnitsCompleteEveryRound, FitUnitsHaveAnInitialState}
 use Rattle.reactive.proofs.Chains.{step_from}
-use Rattle.reactive.proofs.Completing.{first_round, later_round}
+use Rattle.reactive.proofs.Completing.{can_be_completed}
 use Rattle.reactive.proofs.Fit.{numbers, numbers_all, numbers_distinct, passed, fit_module}
 use Rattle.reactive.proofs.Order.{ordered_by}
 use Rattle.reactive.proofs.Sorting.{Sorted, sorted, sorted_there, sorted_distinct}
@@ -63,23 +64,31 @@ module _ (m : Meaning) where
     fine : IsModule (module_of m)
     fine = fit_module m (passed m fit)
 
+    goes_on : CanBeCompleted (module_of m)
+    goes_on = let (order, ordered) = in_order fit in can_be_completed (module_of m) fine controls_decided order ordered
+
     first : (given : List ℕ) → is_state m.outline given ≡ true → (t : List ℕ) × InitialState m t × SameOutside m given t
     first given h =
-        let (order, ordered) = in_order fit in
-        let (v, state, led, outside) = first_round (module_of m) fine controls_decided order ordered (value given) (states_of given h) in
-        let (t, row, same) = (states_agree m).told v state in
-        let there : Initially (module_of m) (value t) =
-        λ i. (fine.atoms i).init.concerned v v v v (value t) (value t) (λ x e. absurd e) (λ x w. same x ((fine.atoms i).awaits x w)) (λ x c. same x ((fine.atoms i).controls x c)) (led i) in
-        (t, ((states_agree m).initial t row).1 (told_state v t same state, there), λ n e. outside n e ∙ same n (inr e))
+        let (v, start, outside) = goes_on.first (value given) (λ x e. states_of given h x (inr e)) in
+        let (t, row, same) = (states_agree m).told v start.state in
+        let there : IsInitial (module_of m) (value t) =
+        record {
+          state = told_state v t same start.state;
+          led = λ i. (fine.atoms i).init.concerned v v v v (value t) (value t) (λ x e. absurd e) (λ x w. same x ((fine.atoms i).awaits x w)) (λ x c. same x ((fine.atoms i).controls x c)) (start.led i);
+        } in
+        (t, ((states_agree m).initial t row).1 there, λ n e. outside n e ∙ same n (inr e))
 
     later : (s given : List ℕ) → is_state m.outline s ≡ true → is_state m.outline given ≡ true → (t : List ℕ) × Successor m s t × SameOutside m given t
     later s given k h =
-        let (order, ordered) = in_order fit in
-        let (v, state, led, outside) = later_round (module_of m) fine controls_decided order ordered (value given) (states_of given h) (value s) (states_of s k) in
-        let (t, row, same) = (states_agree m).told v state in
+        let (v, next, outside) = goes_on.later (value s) (value given) (states_of s k) (λ x e. states_of given h x (inr e)) in
+        let (t, row, same) = (states_agree m).told v next.state in
         let there : Follows (module_of m) (value s) (value t) =
-        λ i. (fine.atoms i).update.concerned (value s) v v (value s) (value t) (value t) (λ x _. refl) (λ x w. same x ((fine.atoms i).awaits x w)) (λ x c. same x ((fine.atoms i).controls x c)) (led i) in
-        (t, ((states_agree m).successors s t row).1 (told_state v t same state, there), λ n e. outside n e ∙ same n (inr e))
+        record {
+          before = next.before;
+          state = told_state v t same next.state;
+          led = λ i. (fine.atoms i).update.concerned (value s) v v (value s) (value t) (value t) (λ x _. refl) (λ x w. same x ((fine.atoms i).awaits x w)) (λ x c. same x ((fine.atoms i).controls x c)) (next.led i);
+        } in
+        (t, (((states_agree m).successors s t (row_of s k) row).1 there).1, λ n e. outside n e ∙ same n (inr e))
 
   nothing_state : is_state m.outline nothing ≡ true
   nothing_state = state_from m.outline nothing (length-replicate {A = ℕ} 32 0) (λ n l. subst (λ v. v ≤ m.outline.top n) (sym (get_or-replicate {A = ℕ} 32 n 0 0 l)) (omega arith))

@@ -2,10 +2,11 @@
 use Rattle.std.proofs.Common.{ℕ, ◌↔◌, map, sym, ap, ◌∙◌, subst, inl, inr}
 use mathlib.Core.Logic.Iff
 use Rattle.theory.proofs.Members.{member_same, member_map}
-use Rattle.reactive.specs.Reactive.{Variables, Types, Valuation, Typed, Module, Variable, Controlled, Executable, IsDeclaration, IsAtom, Awaits, Plus, Plus.one, Plus.more, IsModule, SameAtom, SameModule, Empty}
+use Rattle.reactive.specs.Operations.{SameAtom, SameModule}
+use Rattle.reactive.specs.Reactive.{Variables, Types, Valuation, Typed, Module, Variable, Controlled, Executable, IsDeclaration, IsAtom, Awaits, Plus, Plus.one, Plus.more, IsModule, Empty}
 
 -- an action between the same variables, with the same types there
-executable_same : (types types' : Types) (X Y Z X' Y' Z' : Variables) (act act' : Valuation → Valuation → Valuation → Type 0) →
+pub executable_same : (types types' : Types) (X Y Z X' Y' Z' : Variables) (act act' : Valuation → Valuation → Valuation → Type 0) →
     ((x : ℕ) → X x ↔ X' x) → ((x : ℕ) → Y x ↔ Y' x) → ((x : ℕ) → Z x ↔ Z' x) →
     ((x v : ℕ) → X x → types x v ↔ types' x v) → ((x v : ℕ) → Y x → types x v ↔ types' x v) → ((x v : ℕ) → Z x → types x v ↔ types' x v) →
     ((old new t : Valuation) → act old new t ↔ act' old new t) → Executable types X Y Z act → Executable types' X' Y' Z' act'
@@ -25,7 +26,7 @@ executable_same types types' X Y Z X' Y' Z' act act' xs ys zs tx ty tz acts runs
     news : (new : Valuation) → Typed types' Y' new → Typed types Y new
     news new h y i = (ty y (new y) i).1 (h y ((ys y).0 i))
 
-plus_same : (R S : ℕ → ℕ → Type 0) → ((x y : ℕ) → R x y → S x y) → (x y : ℕ) → Plus R x y → Plus S x y
+pub plus_same : {A : Type 0} (R S : A → A → Type 0) → ((x y : A) → R x y → S x y) → (x y : A) → Plus R x y → Plus S x y
 plus_same R S h x y (one w) = one (h x y w)
 plus_same R S h x z (more {y = y} w p) = more (h x y w) (plus_same R S h y z p)
 
@@ -101,8 +102,6 @@ module _ (P Q : Module) (s : SameModule P Q) where
           finite = (it.finite.0, λ x h. it.finite.1 x (variable_back x h));
           private_or_interface = λ x h k. it.private_or_interface x ((s.private x).1 h) ((s.interface x).1 k);
           controlled_or_external = λ x h k. it.controlled_or_external x (controlled_back x h) ((s.external x).1 k);
-          some_value = λ x h. let found = it.some_value x (variable_back x h) in (found.0, (s.typed x found.0 (variable_back x h)).0 found.1);
-          finite_values = λ x h. let few = it.finite_values x (variable_back x h) in (few.0, λ v k. few.1 v ((s.typed x v (variable_back x h)).1 k));
         }
 
     same_is_module : IsModule Q

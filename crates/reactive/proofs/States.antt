@@ -12,9 +12,8 @@ use Rattle.model.specs.declared.Round.{Round}
 use Rattle.model.specs.declared.Round.TheVariants.{Initial, Update}
 use Rattle.model.proofs.States.{state_parts, state_from, takes_parts, takes_from, yields_parts, yields_from}
 use Rattle.theory.specs.Members.{Member}
-use Rattle.theory.specs.Runs as runs
 use Rattle.reactive.specs.Modules.{Below, no_old, module_of}
-use Rattle.reactive.specs.Reactive.{Variable, IsState, Initially, Follows, IsTrajectory}
+use Rattle.reactive.specs.Reactive.{Variable, IsState, IsInitial, Follows, IsTrajectory, GoesOn}
 use Rattle.reactive.specs.Statements.{Row, StatesAgree, StatesAreThePublishedOnes}
 use Rattle.reactive.proofs.Leading.{Leading, alike_initially, leading_concerned, leading_from_taken, taken_from_leading}
 
@@ -68,33 +67,46 @@ module _ (m : Meaning) where
   from_any : (a : ℕ) (old old' new t : Valuation) → Leading m Initial a old new t → Leading m Initial a old' new t
   from_any a old old' new t = leading_concerned m Initial a old new t old' new t (alike_initially m a old new old' new (λ n _. refl)) (λ n _. refl)
 
-  initial : (t : List ℕ) → Row m t → InitialState m t ↔ (IsState (module_of m) (value t) × Initially (module_of m) (value t))
+  initial : (t : List ℕ) → Row m t → InitialState m t ↔ IsInitial (module_of m) (value t)
   unfolding AllLead
   initial t row = (
-    λ i. ((states t row).0 (yields_parts m Initial nothing t i.yielded).0, λ a. from_any a.number (value nothing) no_old (value t) (value t) (yields_leads Initial nothing t i.yielded a)),
-    λ p. record { yielded = leads_yield Initial nothing t ((states t row).1 p.0) (λ a. from_any a.number no_old (value nothing) (value t) (value t) (p.1 a)) },
+    λ i. record {
+      state = (states t row).0 (yields_parts m Initial nothing t i.yielded).0;
+      led = λ a. from_any a.number (value nothing) no_old (value t) (value t) (yields_leads Initial nothing t i.yielded a);
+    },
+    λ p. record { yielded = leads_yield Initial nothing t ((states t row).1 p.state) (λ a. from_any a.number no_old (value nothing) (value t) (value t) (p.led a)) },
   )
 
-  successors : (s t : List ℕ) → Row m t → Successor m s t ↔ (IsState (module_of m) (value t) × Follows (module_of m) (value s) (value t))
+  -- a successor of a state
+  follows : (s t : List ℕ) → IsState (module_of m) (value s) → Row m t → Successor m s t ↔ Follows (module_of m) (value s) (value t)
   unfolding AllLead
-  successors s t row = (
-    λ u. ((states t row).0 (yields_parts m Update s t u.yielded).0, yields_leads Update s t u.yielded),
-    λ p. record { yielded = leads_yield Update s t ((states t row).1 p.0) p.1 },
+  follows s t before row = (
+    λ u. record { before = before; state = (states t row).0 (yields_parts m Update s t u.yielded).0; led = yields_leads Update s t u.yielded },
+    λ p. record { yielded = leads_yield Update s t ((states t row).1 p.state) p.led },
+  )
+
+  successors : (s t : List ℕ) → Row m s → Row m t → ((is_state m.outline s ≡ true) × Successor m s t) ↔ Follows (module_of m) (value s) (value t)
+  successors s t before row = (
+    λ u. (follows s t ((states s before).0 u.0) row).0 u.1,
+    λ p. ((states s before).1 p.before, (follows s t p.before row).1 p),
   )
 
   trajectories : (run : List (List ℕ)) → ((t : List ℕ) → Member t run → Row m t) → Trajectory m run ↔ IsTrajectory (module_of m) (map value run)
   trajectories [] rows = (λ i. i, λ i. i)
   trajectories (s ∷ ts) rows =
-      let start = initial s (rows s (inl refl)) in
-      let rest = continues s ts (λ t k. rows t (inr k)) in
-      (λ i. (start.0 i.0, rest.0 i.1), λ i. (start.1 i.0, rest.1 i.1))
+      let start = initial s (rows s (inl refl)) in (
+        λ i. let first = start.0 i.0 in (first, (continues s ts first.state (λ t k. rows t (inr k))).0 i.1),
+        λ i. (start.1 i.0, (continues s ts i.0.state (λ t k. rows t (inr k))).1 i.1),
+      )
     where
-      continues : (s : List ℕ) (ts : List (List ℕ)) → ((t : List ℕ) → Member t ts → Row m t) → Continues m s ts ↔ runs.Continues (λ s t. IsState (module_of m) t × Follows (module_of m) s t) (value s) (map value ts)
-      continues s [] rows = (λ i. i, λ i. i)
-      continues s (t ∷ ts) rows =
-          let here = successors s t (rows t (inl refl)) in
-          let rest = continues t ts (λ u k. rows u (inr k)) in
-          (λ i. (here.0 i.0, rest.0 i.1), λ i. (here.1 i.0, rest.1 i.1))
+      continues : (s : List ℕ) (ts : List (List ℕ)) → IsState (module_of m) (value s) → ((t : List ℕ) → Member t ts → Row m t) →
+          Continues m s ts ↔ GoesOn (module_of m) (value s) (map value ts)
+      continues s [] before rows = (λ i. i, λ i. i)
+      continues s (t ∷ ts) before rows =
+          let here = follows s t before (rows t (inl refl)) in (
+            λ i. let next = here.0 i.0 in (next, (continues t ts next.state (λ u k. rows u (inr k))).0 i.1),
+            λ i. (here.1 i.0, (continues t ts i.0.state (λ u k. rows u (inr k))).1 i.1),
+          )
 
   -- the valuation as a row
   abbrev row_of : Valuation → List ℕ

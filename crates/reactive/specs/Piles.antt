@@ -9,7 +9,7 @@ use Rattle.composition.specs.Views.{projected, exchanged}
 use Rattle.model.specs.Meanings.{Meaning}
 use Rattle.model.specs.States.{is_state, InitialState, Successor}
 use Rattle.reactive.specs.Modules.{module_of}
-use Rattle.reactive.specs.Reactive.{composed, renamed_module, hidden_module, SameModule}
+use Rattle.reactive.specs.Operations.{composed, renamed_module, hidden_module, SameModule}
 
 -- A join without fault is the parallel composition of its parts. Its initial states are those of its states that each
 -- part sees as initial, and its successors likewise; in the other order it does the same.

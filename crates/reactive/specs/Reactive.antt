@@ -1,9 +1,6 @@
--- Reactive modules: what an atom and a module are, how a module moves in rounds, and the operations on modules.
-use Rattle.std.specs.Prelude.{◌≡◌, ℕ, ◌⊎◌, ◌↔◌, List, [], ◌∷◌, ◌≢◌}
-use Rattle.std.proofs.Common.{inl, inr}
-use Rattle.model.specs.Exchange.{exchange}
-use Rattle.theory.specs.Members.{Member, Distinct}
-use Rattle.theory.specs.Runs.{Trajectory}
+-- Reactive modules: what an atom and a module are, and how a module moves in rounds. This file stands by itself: it
+-- knows nothing of drawings.
+use Rattle.std.specs.Prelude.{◌≡◌, ℕ, ◌⊎◌, ◌↔◌, List, [], ◌∷◌}
 
 -- Variables are named by numbers, and so are their values.
 
@@ -25,6 +22,15 @@ Typed types X s = (x : ℕ) → X x → types x (s x)
 -- the two valuations are the same on these variables
 abbrev pub Agree : Variables → Valuation → Valuation → Type 0
 Agree X s t = (x : ℕ) → X x → s x ≡ t x
+
+-- no variables
+abbrev pub Empty : Variables
+Empty x = ⊥
+
+-- x stands in the list
+abbrev pub Among : {A : Type 0} → A → List A → Type 0
+Among x [] = ⊥
+Among x (y ∷ ys) = (y ≡ x) ⊎ Among x ys
 
 -- An atom controls some variables. In the first round its initial action gives them values that may depend on the new
 -- values of the variables that it awaits; in each later round its update action gives them new values that may depend
@@ -62,11 +68,7 @@ pub record Executable (types : Types) (X Y Z : Variables) (act : Valuation → V
   pub result : (old new : Valuation) → Typed types X old → Typed types Y new → (t : Valuation) × act old new t
   pub typed : (old new t : Valuation) → Typed types X old → Typed types Y new → act old new t → Typed types Z t
   pub finite : (old new : Valuation) → Typed types X old → Typed types Y new →
-      (results : List Valuation) × ((t : Valuation) → act old new t → (u : Valuation) × Member u results × Agree Z t u)
-
--- no variables
-abbrev pub Empty : Variables
-Empty x = ⊥
+      (results : List Valuation) × ((t : Valuation) → act old new t → (u : Valuation) × Among u results × Agree Z t u)
 
 -- The atom's sets are variables of the module, it awaits none that it controls, and its actions are executable.
 pub record IsAtom (P : Module) (A : Atom) : Type 0 where
@@ -84,130 +86,65 @@ pub record Awaits (P : Module) (x y : ℕ) : Type 0 where
   pub awaits : (P.atom atom).awaits y
 
 -- the transitive closure of a relation
-pub data Plus (R : ℕ → ℕ → Type 0) : ℕ → ℕ → Type 0 where
-  one : {x y : ℕ} → R x y → Plus R x y
-  more : {x y z : ℕ} → R x y → Plus R y z → Plus R x z
+pub data Plus {A : Type 0} (R : A → A → Type 0) : A → A → Type 0 where
+  one : {x y : A} → R x y → Plus R x y
+  more : {x y z : A} → R x y → Plus R y z → Plus R x z
 
--- finitely many variables, each of one kind, and each with some values, finitely many
+-- the transitive closure is asymmetric
+abbrev pub Acyclic : {A : Type 0} → (A → A → Type 0) → Type 0
+Acyclic {A} R = (x y : A) → Plus R x y → Plus R y x → ⊥
+
+-- finitely many variables, each of one kind
 pub record IsDeclaration (P : Module) : Type 0 where
-  pub finite : (xs : List ℕ) × ((x : ℕ) → Variable P x → Member x xs)
+  pub finite : (xs : List ℕ) × ((x : ℕ) → Variable P x → Among x xs)
   pub private_or_interface : (x : ℕ) → P.private x → P.interface x → ⊥
   pub controlled_or_external : (x : ℕ) → Controlled P x → P.external x → ⊥
-  pub some_value : (x : ℕ) → Variable P x → (v : ℕ) × P.typed x v
-  pub finite_values : (x : ℕ) → Variable P x → (vs : List ℕ) × ((v : ℕ) → P.typed x v → Member v vs)
 
 -- A module: finitely many atoms that together control the private and interface variables, each of these by one atom
 -- only; and no variable awaits another that awaits it, directly or through others.
 pub record IsModule (P : Module) : Type 0 where
   pub declaration : IsDeclaration P
-  pub finite : (atoms : List P.Index) × ((i : P.Index) → Member i atoms)
+  pub finite : (atoms : List P.Index) × ((i : P.Index) → Among i atoms)
   pub atoms : (i : P.Index) → IsAtom P (P.atom i)
   pub controls : (x : ℕ) → Controlled P x ↔ ((i : P.Index) × (P.atom i).controls x)
   pub one_controller : (i j : P.Index) (x : ℕ) → (P.atom i).controls x → (P.atom j).controls x → i ≡ j
-  pub acyclic : (x y : ℕ) → Plus (Awaits P) x y → Plus (Awaits P) y x → ⊥
+  pub acyclic : Acyclic (Awaits P)
 
--- A consistent order of the atoms: each stands there once, and none awaits a variable that a later one controls.
-
-abbrev pub Consistent : (P : Module) → List P.Index → Type 0
-Consistent P [] = Unit {0}
-Consistent P (i ∷ later) = ((j : P.Index) (x : ℕ) → Member j later → (P.atom i).awaits x → (P.atom j).controls x → ⊥) × Consistent P later
-
-pub record IsOrder (P : Module) (order : List P.Index) : Type 0 where
-  pub complete : (i : P.Index) → Member i order
-  pub distinct : Distinct order
-  pub consistent : Consistent P order
+-- A module may have variables with infinitely many values, such as streams. Where it has none, and no type is empty, its
+-- states are finitely many. So it is with every drawing's module; this is a restriction of drawings, and no part of what a
+-- module is.
+pub record FiniteTypes (P : Module) : Type 0 where
+  pub some_value : (x : ℕ) → Variable P x → (v : ℕ) × P.typed x v
+  pub finite_values : (x : ℕ) → Variable P x → (vs : List ℕ) × ((v : ℕ) → P.typed x v → Among v vs)
 
 -- States, initial states, successors, trajectories
 
 abbrev pub IsState : Module → Valuation → Type 0
 IsState P s = Typed P.typed (Variable P) s
 
--- the initial action of each atom leads there
-abbrev pub Initially : Module → Valuation → Type 0
-Initially P s = (i : P.Index) → (P.atom i).init s s
+-- an initial state: the initial action of each atom leads there
+pub record IsInitial (P : Module) (s : Valuation) : Type 0 where
+  pub state : IsState P s
+  pub led : (i : P.Index) → (P.atom i).init s s
 
--- the update action of each atom leads from s to t
-abbrev pub Follows : Module → Valuation → Valuation → Type 0
-Follows P s t = (i : P.Index) → (P.atom i).update s t t
+-- t is a successor of s: both are states, and the update action of each atom leads from s to t
+pub record Follows (P : Module) (s t : Valuation) : Type 0 where
+  pub before : IsState P s
+  pub state : IsState P t
+  pub led : (i : P.Index) → (P.atom i).update s t t
 
--- states, the first initial, each later one a successor of the one before
+-- each state of the list is a successor of the one before, the first of them of s
+abbrev pub GoesOn : Module → Valuation → List Valuation → Type 0
+GoesOn P s [] = Unit {0}
+GoesOn P s (t ∷ later) = Follows P s t × GoesOn P t later
+
+-- an initialised trajectory: states, the first initial, each later one a successor of the one before
 abbrev pub IsTrajectory : Module → List Valuation → Type 0
-IsTrajectory P run = Trajectory (λ s. IsState P s × Initially P s) (λ s t. IsState P t × Follows P s t) run
+IsTrajectory P [] = ⊥
+IsTrajectory P (s ∷ later) = IsInitial P s × GoesOn P s later
 
--- Composition: the atoms and the variables of both. An external variable of one that is an interface variable of the
--- other is no longer external, and a variable of both has the values that both allow.
-
-abbrev pub either : {I J : Type 0} → (I → Atom) → (J → Atom) → I ⊎ J → Atom
-either f g (inl i) = f i
-either f g (inr j) = g j
-
-abbrev pub composed : Module → Module → Module
-composed P Q =
-    record {
-      private = λ x. P.private x ⊎ Q.private x;
-      interface = λ x. P.interface x ⊎ Q.interface x;
-      external = λ x. (P.external x ⊎ Q.external x) × (P.interface x ⊎ Q.interface x → ⊥);
-      typed = λ x v. (Variable P x → P.typed x v) × (Variable Q x → Q.typed x v);
-      Index = P.Index ⊎ Q.Index;
-      atom = either P.atom Q.atom;
-    }
-
--- Renaming: y for x, where y is no variable; so the two are exchanged.
-
-abbrev pub under_other_names : ℕ → ℕ → Valuation → Valuation
-under_other_names x y s n = s (exchange x y n)
-
-abbrev pub renamed_atom : Atom → ℕ → ℕ → Atom
-renamed_atom A x y =
-    record {
-      controls = λ n. A.controls (exchange x y n);
-      reads = λ n. A.reads (exchange x y n);
-      awaits = λ n. A.awaits (exchange x y n);
-      init = λ new t. A.init (under_other_names x y new) (under_other_names x y t);
-      update = λ old new t. A.update (under_other_names x y old) (under_other_names x y new) (under_other_names x y t);
-    }
-
-abbrev pub renamed_module : Module → ℕ → ℕ → Module
-renamed_module P x y =
-    record {
-      private = λ n. P.private (exchange x y n);
-      interface = λ n. P.interface (exchange x y n);
-      external = λ n. P.external (exchange x y n);
-      typed = λ n. P.typed (exchange x y n);
-      Index = P.Index;
-      atom = λ i. renamed_atom (P.atom i) x y;
-    }
-
--- Hiding: x moves from the interface variables to the private ones.
-
-abbrev pub hidden_module : Module → ℕ → Module
-hidden_module P x =
-    record {
-      private = λ n. P.private n ⊎ ((n ≡ x) × P.interface n);
-      interface = λ n. P.interface n × (n ≢ x);
-      external = P.external;
-      typed = P.typed;
-      Index = P.Index;
-      atom = P.atom;
-    }
-
--- Two modules are the same: the same variables with the same types, and atoms that correspond one to one, with the same
--- sets and the same actions.
-
-pub record SameAtom (A B : Atom) : Type 0 where
-  pub controls : (x : ℕ) → A.controls x ↔ B.controls x
-  pub reads : (x : ℕ) → A.reads x ↔ B.reads x
-  pub awaits : (x : ℕ) → A.awaits x ↔ B.awaits x
-  pub init : (new t : Valuation) → A.init new t ↔ B.init new t
-  pub update : (old new t : Valuation) → A.update old new t ↔ B.update old new t
-
-pub record SameModule (P Q : Module) : Type 0 where
-  pub private : (x : ℕ) → P.private x ↔ Q.private x
-  pub interface : (x : ℕ) → P.interface x ↔ Q.interface x
-  pub external : (x : ℕ) → P.external x ↔ Q.external x
-  pub typed : (x v : ℕ) → Variable P x → P.typed x v ↔ Q.typed x v
-  pub there : P.Index → Q.Index
-  pub back : Q.Index → P.Index
-  pub there_and_back : (i : P.Index) → back (there i) ≡ i
-  pub back_and_there : (j : Q.Index) → there (back j) ≡ j
-  pub atoms : (i : P.Index) → SameAtom (P.atom i) (Q.atom (there i))
+-- t is the last of the list
+abbrev pub EndsIn : List Valuation → Valuation → Type 0
+EndsIn [] t = ⊥
+EndsIn (s ∷ []) t = s ≡ t
+EndsIn (s ∷ (u ∷ later)) t = EndsIn (u ∷ later) t

@@ -8,7 +8,9 @@ use Rattle.model.specs.declared.Kind.TheVariants.{External}
 use Rattle.theory.specs.Members.{Member}
 use Rattle.units.specs.Sealing.{verdict}
 use Rattle.reactive.specs.Modules.{Below, module_of, Limits}
-use Rattle.reactive.specs.Reactive.{Valuation, Agree, Variable, IsModule, IsOrder, IsState, Initially, Follows, IsTrajectory, composed, renamed_module, hidden_module, SameModule}
+use Rattle.reactive.specs.Execution.{IsOrder}
+use Rattle.reactive.specs.Operations.{composed, renamed_module, hidden_module, SameModule}
+use Rattle.reactive.specs.Reactive.{Valuation, Agree, Variable, IsModule, FiniteTypes, IsState, IsInitial, Follows, IsTrajectory}
 
 -- A drawing is fit exactly when nothing is wrong with it, its module is a reactive module, and it stays within the limits.
 abbrev pub FitExactlyWhenAModuleWithinLimits : Type 0
@@ -23,8 +25,8 @@ pub record Row (m : Meaning) (t : List ℕ) : Type 0 where
 -- by a row.
 pub record StatesAgree (m : Meaning) : Type 0 where
   pub states : (t : List ℕ) → Row m t → (is_state m.outline t ≡ true) ↔ IsState (module_of m) (value t)
-  pub initial : (t : List ℕ) → Row m t → InitialState m t ↔ (IsState (module_of m) (value t) × Initially (module_of m) (value t))
-  pub successors : (s t : List ℕ) → Row m t → Successor m s t ↔ (IsState (module_of m) (value t) × Follows (module_of m) (value s) (value t))
+  pub initial : (t : List ℕ) → Row m t → InitialState m t ↔ IsInitial (module_of m) (value t)
+  pub successors : (s t : List ℕ) → Row m s → Row m t → ((is_state m.outline s ≡ true) × Successor m s t) ↔ Follows (module_of m) (value s) (value t)
   pub trajectories : (run : List (List ℕ)) → ((t : List ℕ) → Member t run → Row m t) → Trajectory m run ↔ IsTrajectory (module_of m) (map value run)
   pub told : (v : Valuation) → IsState (module_of m) v → (t : List ℕ) × Row m t × Agree (Variable (module_of m)) v (value t)
 

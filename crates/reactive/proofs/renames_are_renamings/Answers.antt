@@ -1,4 +1,4 @@
-use Rattle.reactive.proofs.Operations.{renames_are}
+use Rattle.reactive.proofs.Renamed.{renames_are}
 use Rattle.reactive.proofs.renames_are_renamings.Goals as goal
 
 pub returns : goal.returns
