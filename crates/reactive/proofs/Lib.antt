@@ -2,12 +2,14 @@ pub mod Acting
 pub mod Awaiting
 pub mod Chains
 pub mod Completing
+pub mod Composing
 pub mod Controlling
 pub mod Fit
 pub mod Judged
 pub mod Leading
 pub mod Operations
 pub mod Order
+pub mod Ordering
 pub mod Piles
 pub mod Renamed
 pub mod Rounds
