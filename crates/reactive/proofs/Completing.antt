@@ -1,8 +1,8 @@
 -- In a reactive module each round can be completed, atom after atom in a consistent order, whatever the external
 -- variables are given; and along every such order it leads where the actions together lead.
-use Rattle.std.proofs.Common.{◌≡◌, ℕ, ◌⊎◌, ◌↔◌, List, [], ◌∷◌, sym, refl, ◌∙◌, subst, inl, inr, ⊎_elim}
-use Rattle.reactive.specs.Execution.{Once, Consistent, IsOrder, Acts, ActInTurn, LeadsTheSame, CanBeCompleted}
-use Rattle.reactive.specs.Reactive.{Variables, Valuation, Typed, Agree, Empty, Among, Module, Controlled, Variable, Executable, IsModule, IsState, IsInitial, Follows}
+use Rattle.std.proofs.Common.{◌≡◌, ℕ, List, [], ◌∷◌, sym, refl, ◌∙◌, subst, inl, inr, ⊎_elim}
+use Rattle.reactive.specs.Execution.{Once, Consistent, IsOrder, ActInTurn, LeadsTheSame, CanBeCompleted}
+use Rattle.reactive.specs.Reactive.{Variables, Valuation, Typed, Agree, Empty, Among, Module, Variable, Executable, IsModule, IsState}
 
 pick : {A : Type 0} → Dec A → ℕ → ℕ → ℕ
 pick (yes h) x y = x
@@ -66,8 +66,7 @@ module _ (P : Module) (fine : IsModule P) (decided : (i : P.Index) (x : ℕ) →
         let own : (x : ℕ) → (P.atom i).controls x → next x ≡ t x = λ x h. pick_yes (decided i x) (t x) (v x) h in
         let other : (x : ℕ) → ((P.atom i).controls x → ⊥) → next x ≡ v x = λ x h. pick_no (decided i x) (t x) (v x) h in
         let onward : Agree (Given P later) next t =
-        λ x g. elim (decided i x) [ yes k ↦ own x k | no k ↦ other x k ∙ same x (g.0, λ j. ⊎_elim {C = (P.atom j).controls x → ⊥} (λ e h. k (subst (λ n. (P.atom n).controls x) (sym e) h)) (g.1 j)) ] in
-        (
+        λ x g. elim (decided i x) [ yes k ↦ own x k | no k ↦ other x k ∙ same x (g.0, λ j. ⊎_elim {C = (P.atom j).controls x → ⊥} (λ e h. k (subst (λ n. (P.atom n).controls x) (sym e) h)) (g.1 j)) ] in (
           next,
           record {
             led = (runs i).concerned old t t old v next (λ x _. refl) (λ x w. sym (same x (given_before i later c x w))) (λ x h. sym (own x h)) (all i);
@@ -99,7 +98,7 @@ module _ (P : Module) (fine : IsModule P) (decided : (i : P.Index) (x : ℕ) →
           let typed = (runs i).typed old v u (seen i) awaited a in
           let onward : Typed P.typed (Given P later) next =
           λ x g. elim (decided i x) [
-            yes k ↦ subst (P.typed x) (sym (own x k)) (typed x k)
+            | yes k ↦ subst (P.typed x) (sym (own x k)) (typed x k)
             | no k ↦ subst (P.typed x) (sym (other x k)) (s x (g.0, λ j. ⊎_elim {C = (P.atom j).controls x → ⊥} (λ e h. k (subst (λ n. (P.atom n).controls x) (sym e) h)) (g.1 j)))
           ] in
           let rest = completed later next c.1 d.1 onward in

@@ -2,7 +2,7 @@
 use Rattle.std.proofs.Common.{◌≡◌, ℕ, ◌⊎◌, ◌↔◌, List, ◌++◌, map, ap, inl, inr, ⊎_elim}
 use Rattle.theory.proofs.Members.{member_left, member_right, member_map}
 use Rattle.reactive.specs.Operations.{composed, NamesApart, Compatible, AwaitsInEither}
-use Rattle.reactive.specs.Reactive.{Variables, Valuation, Empty, Among, Module, Controlled, Variable, Executable, IsDeclaration, IsAtom, Awaits, IsModule, FiniteTypes}
+use Rattle.reactive.specs.Reactive.{Variables, Valuation, Empty, Among, Module, Controlled, Variable, Executable, IsDeclaration, IsAtom, Awaits, IsModule}
 use Rattle.reactive.proofs.Same.{executable_same, plus_same}
 
 alike : {A : Type 0} → A ↔ A

@@ -1,6 +1,6 @@
 -- A drawing is fit exactly when nothing is wrong with it, its module is a reactive module, and it stays within the limits.
-use Rattle.std.proofs.Common.{◌≡◌, ℕ, zero, suc, ◌+◌, ◌<◌, ◌≤◌, false, List, [], ◌∷◌, None, sym, ap, ◌∙◌, inl, inr, ⊎_elim, not-suc-le-zero, arith}
-use Rattle.std.proofs.lemmas.Bool.{true≢false, cases_eq, le-ltb, ltb-false}
+use Rattle.std.proofs.Common.{◌≡◌, ℕ, ◌+◌, ◌<◌, ◌≤◌, false, None, sym, ap, ◌∙◌, ⊎_elim, arith}
+use Rattle.std.proofs.lemmas.Bool.{true≢false, le-ltb, ltb-false}
 use Rattle.composition.specs.Faults.{is_private}
 use Rattle.model.specs.Meanings.{Meaning}
 use Rattle.model.specs.Tests.{lowest}
@@ -8,44 +8,18 @@ use Rattle.model.specs.declared.Round.{Round}
 use Rattle.model.specs.declared.Round.TheVariants.{Initial, Update}
 use Rattle.model.proofs.Lowest.{lowest_clear, clear_lowest}
 use Rattle.theory.specs.Enumerations.{below}
-use Rattle.theory.specs.Members.{Member, Distinct}
 use Rattle.theory.proofs.Enumerations.{below_exact}
 use Rattle.units.specs.Sealing.{owned, badly_controlled, circular, sight, sees_too_much, gets_stuck, leaves_range, width, at_lowest, if_so, of_drawing, verdict}
 use Rattle.units.specs.declared.refusal.Refusal.TheVariants.{AwaitsItself, GetsStuck, LeavesRange, NotOneController, SeesTooMuch, TooWide}
 use Rattle.units.proofs.Evidence.{else_parts, else_from, at_lowest_parts, if_so_parts, of_drawing_parts}
-use Rattle.reactive.specs.Modules.{Below, module_of, Limits}
+use Rattle.reactive.specs.Modules.{module_of, Limits}
 use Rattle.reactive.specs.Reactive.{Plus.one, IsDeclaration, IsModule}
-use Rattle.reactive.specs.Statements.{FitExactlyWhenAModuleWithinLimits}
+use Rattle.reactive.specs.Statements.{FitExactlyWhenAModuleWithinLimits, DrawingsHaveFiniteTypes}
 use Rattle.reactive.proofs.Acting.{Runs, runs_where, never_stuck, never_outside}
 use Rattle.reactive.proofs.Awaiting.{NoCircle, acyclic_from, no_circle}
 use Rattle.reactive.proofs.Controlling.{WellControlled, controls_exactly, controls_once, well_controlled}
-use Rattle.reactive.proofs.Operations.{same_number}
+use Rattle.reactive.proofs.Numbers.{numbers, numbers_all}
 use Rattle.reactive.proofs.States.{variable_from, variable_there}
-
--- the numbers below n, as such
-
-lower : (k n : ℕ) → suc k ≤ n → k ≤ n
-lower k n h = omega arith
-
-pub numbers : (n k : ℕ) → k ≤ n → List (Below n)
-numbers n zero h = []
-numbers n (suc k) h = record { number = k; low = h } ∷ numbers n k (lower k n h)
-
-pub numbers_all : (n k : ℕ) (h : k ≤ n) (i : Below n) → i.number < k → Member i (numbers n k h)
-unfolding numbers
-numbers_all n zero h i l = absurd (not-suc-le-zero l)
-numbers_all n (suc k) h i l = ⊎_elim (λ e. inl (same_number _ i e)) (λ d. inr (numbers_all n k (lower k n h) i (omega arith))) (cases_eq k i.number)
-
-numbers_low : (n k : ℕ) (h : k ≤ n) (i : Below n) → Member i (numbers n k h) → i.number < k
-unfolding numbers
-numbers_low n zero h i l = absurd l
-numbers_low n (suc k) h i (inl e) = omega (arith, ap (λ (j : Below n). j.number) e)
-numbers_low n (suc k) h i (inr l) = omega (arith, numbers_low n k (lower k n h) i l)
-
-pub numbers_distinct : (n k : ℕ) (h : k ≤ n) → Distinct (numbers n k h)
-unfolding numbers
-numbers_distinct n zero h = tt
-numbers_distinct n (suc k) h = (λ l. omega (arith, numbers_low n k (lower k n h) (record { number = k; low = h }) l), numbers_distinct n k (lower k n h))
 
 -- what each check of sealing leaves
 pub record Passed (m : Meaning) : Type 0 where
@@ -133,3 +107,10 @@ fit_exactly m = (
   λ h. let p = passed m h in (p.sound, fit_module m p, record { sights = p.sights; ways = p.ways }),
   λ h. passes m (module_fit m h.0 h.1 h.2),
 )
+
+pub finite_types : DrawingsHaveFiniteTypes
+finite_types m =
+    record {
+      some_value = λ x v. (0, omega arith);
+      finite_values = λ x v. (below (m.outline.top x + 1), λ y l. (below_exact (m.outline.top x + 1)).complete y (omega arith));
+    }

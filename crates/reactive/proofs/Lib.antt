@@ -4,11 +4,14 @@ pub mod Chains
 pub mod Completing
 pub mod Composing
 pub mod Controlling
+pub mod Deciding
 pub mod Fit
 pub mod Judged
 pub mod Leading
+pub mod Numbers
 pub mod Operations
 pub mod Order
+pub mod Ordered
 pub mod Ordering
 pub mod Piles
 pub mod Renamed
@@ -16,3 +19,4 @@ pub mod Rounds
 pub mod Same
 pub mod Sorting
 pub mod States
+pub mod Theorems

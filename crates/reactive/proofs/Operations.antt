@@ -3,24 +3,21 @@ use mathlib.Core.HLevel.{is_prop→PathP}
 use Rattle.std.proofs.Common.{◌≡◌, ℕ, ◌+◌, ◌-◌, ◌<◌, ◌≤◌, Bool, true, false, cond, not, ◌&&◌, ◌||◌, eqb, ltb, ◌⊎◌, ◌↔◌, is_some, Some, None, Option, sym, refl, ap, ◌∙◌, subst, inl, inr, ⊎_elim, arith}
 use native.Mathlib.Bridge.{le_prop}
 use Rattle.std.proofs.lemmas.Bool.{true≢false, false≢true, both_ways, cases_lt, cases_Bool, cond_both, cond-true, cond-false, eq-eqb, ne_eqb, eqb-true, eqb-false, lt-ltb, le-ltb, and_from, and_parts, or_left, or_right, or_cases, not-true, not_from_false}
-use Rattle.composition.specs.Acts.{acts_with, renamed_choices, joined_choices}
-use Rattle.model.specs.Exchange.{exchange}
-use Rattle.composition.specs.laws.Exchange.{exchange_twice}
+use Rattle.composition.specs.Acts.{acts_with, joined_choices}
 use Rattle.composition.specs.Allowed.{Fits}
 use Rattle.composition.specs.laws.Faults.{hides, joins}
 use Rattle.composition.specs.Faults.{is_private, is_interface, clash}
 use Rattle.composition.specs.laws.Outlines.{joined_some_rest}
-use Rattle.composition.specs.Outlines.{outline_with, renamed_tables, hidden_tables, joined_kind, joined_tables}
+use Rattle.composition.specs.Outlines.{outline_with, hidden_tables, joined_kind, joined_tables}
 use Rattle.composition.proofs.Fitting.{fits, top_left, top_right}
 use Rattle.model.specs.Meanings.{Meaning}
 use Rattle.model.specs.declared.Kind.{Kind}
 use Rattle.model.specs.declared.Kind.TheVariants.{Private, Interface, External}
-use Rattle.model.specs.declared.Round.TheVariants.{Initial, Update}
 use Rattle.units.specs.Sealing.{is_external}
-use Rattle.reactive.specs.Modules.{as_value, no_old, Below, Choices, Leads, atom_from, atom_of, choices_of, module_from, module_of}
-use Rattle.reactive.specs.Operations.{renamed_set, values_before, composed, renamed_module, hidden_module, SameAtom, SameModule}
-use Rattle.reactive.specs.Reactive.{Variables, Valuation, Atom, Module, Variable}
-use Rattle.reactive.specs.Statements.{JoinsAreCompositions, RenamesAreRenamings, HidesAreHidings}
+use Rattle.reactive.specs.Modules.{Below, atom_from, atom_of, module_from, module_of}
+use Rattle.reactive.specs.Operations.{composed, hidden_module, SameAtom, SameModule}
+use Rattle.reactive.specs.Reactive.{Atom, Module, Variable}
+use Rattle.reactive.specs.Statements.{JoinsAreCompositions, HidesAreHidings}
 use Rattle.reactive.proofs.States.{variable_from, variable_there}
 
 same_type : {A : Type 0} → A ↔ A
@@ -33,7 +30,7 @@ pub same_number : {n : ℕ} (i j : Below n) → i.number ≡ j.number → i ≡ 
 same_number {n} i j e = λ t. record { number = e t; low = is_prop→PathP (λ u. e u < n) (λ u. le_prop) i.low j.low t }
 
 -- kinds as tests
-private_iff : (k : Option Kind) → (k ≡ Some Private) ↔ (is_private k ≡ true)
+pub private_iff : (k : Option Kind) → (k ≡ Some Private) ↔ (is_private k ≡ true)
 private_iff k = (ap is_private, back k)
   where
     back : (k : Option Kind) → is_private k ≡ true → k ≡ Some Private
@@ -42,7 +39,7 @@ private_iff k = (ap is_private, back k)
     back (Some Interface) e = absurd (false≢true e)
     back (Some External) e = absurd (false≢true e)
 
-interface_iff : (k : Option Kind) → (k ≡ Some Interface) ↔ (is_interface k ≡ true)
+pub interface_iff : (k : Option Kind) → (k ≡ Some Interface) ↔ (is_interface k ≡ true)
 interface_iff k = (ap is_interface, back k)
   where
     back : (k : Option Kind) → is_interface k ≡ true → k ≡ Some Interface
@@ -51,7 +48,7 @@ interface_iff k = (ap is_interface, back k)
     back (Some Interface) e = refl
     back (Some External) e = absurd (false≢true e)
 
-external_iff : (k : Option Kind) → (k ≡ Some External) ↔ (is_external k ≡ true)
+pub external_iff : (k : Option Kind) → (k ≡ Some External) ↔ (is_external k ≡ true)
 external_iff k = (ap is_external, back k)
   where
     back : (k : Option Kind) → is_external k ≡ true → k ≡ Some External

@@ -1,5 +1,5 @@
 -- Renaming of drawings is renaming of their modules.
-use Rattle.std.proofs.Common.{◌≡◌, ℕ, ◌≤◌, Bool, cond, true, eqb, ◌⊎◌, ◌↔◌, is_some, Some, None, ◌≢◌, sym, refl, ap, ◌∙◌, subst, inl, inr, ⊎_elim}
+use Rattle.std.proofs.Common.{◌≡◌, ℕ, ◌≤◌, Bool, true, eqb, ◌↔◌, is_some, Some, None, ◌≢◌, sym, refl, ap, ◌∙◌, subst, inl, inr, ⊎_elim}
 use Rattle.std.proofs.lemmas.Bool.{true≢false, cond-true, cond-false, eq-eqb, ne_eqb}
 use Rattle.composition.specs.Acts.{acts_with, renamed_choices}
 use Rattle.composition.specs.Allowed.{Renames}
@@ -7,17 +7,16 @@ use Rattle.composition.specs.Outlines.{outline_with, renamed_tables}
 use Rattle.composition.specs.laws.Exchange.{exchange_both, exchange_old, exchange_twice}
 use Rattle.composition.specs.laws.Faults.{renames}
 use Rattle.model.specs.Exchange.{exchange}
-use Rattle.model.specs.Meanings.{Alike, Meaning}
+use Rattle.model.specs.Meanings.{Meaning}
 use Rattle.model.specs.declared.Kind.{Kind}
 use Rattle.model.specs.declared.Kind.TheVariants.{Private, Interface, External}
 use Rattle.model.specs.declared.Round.{Round}
 use Rattle.model.specs.declared.Round.TheVariants.{Initial, Update}
-use Rattle.reactive.specs.Modules.{as_value, no_old, Below, Choices, Leads, atom_of, choices_of, module_from, module_of}
-use Rattle.reactive.specs.Operations.{renamed_set, renamed_atom, values_before, renamed_module, SameAtom, SameModule}
+use Rattle.reactive.specs.Modules.{as_value, no_old, Choices, Leads, choices_of, module_from, module_of}
+use Rattle.reactive.specs.Operations.{renamed_set, values_before, renamed_module, SameModule}
 use Rattle.reactive.specs.Reactive.{Variables, Valuation, Module, Variable}
 use Rattle.reactive.specs.Statements.{RenamesAreRenamings}
 use Rattle.reactive.proofs.Leading.{Leading, leading_concerned}
-use Rattle.reactive.proofs.States.{variable_there}
 
 module _ (a b : ℕ) where
   -- what is told of a name under the exchanged one is told of the renamed set, but at the old name

@@ -13,7 +13,8 @@ use Rattle.reactive.specs.Reactive.{Valuation, Agree, Variable, IsModule, IsStat
 use Rattle.reactive.specs.Statements.{Row, SameOutside, FitUnitsHaveAnOrder, FitUnitsCompleteEveryRound, FitUnitsHaveAnInitialState}
 use Rattle.reactive.proofs.Chains.{step_from}
 use Rattle.reactive.proofs.Completing.{can_be_completed}
-use Rattle.reactive.proofs.Fit.{numbers, numbers_all, numbers_distinct, passed, fit_module}
+use Rattle.reactive.proofs.Fit.{passed, fit_module}
+use Rattle.reactive.proofs.Numbers.{numbers, numbers_all, numbers_distinct}
 use Rattle.reactive.proofs.Order.{ordered_by}
 use Rattle.reactive.proofs.Sorting.{Sorted, sorted, sorted_there, sorted_distinct}
 use Rattle.reactive.proofs.States.{states_agree}

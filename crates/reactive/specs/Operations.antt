@@ -2,7 +2,7 @@
 -- definition of modules, this file knows nothing of drawings.
 use Rattle.std.specs.Prelude.{◌≡◌, ℕ, cond, ◌⊎◌, ◌↔◌, ◌≢◌, ◌==◌}
 use Rattle.std.proofs.Common.{inl, inr}
-use Rattle.reactive.specs.Reactive.{Variables, Types, Valuation, Atom, Module, Controlled, Variable, Awaits, Acyclic}
+use Rattle.reactive.specs.Reactive.{Variables, Types, Valuation, Atom, Module, Variable, Awaits, Acyclic}
 
 -- Renaming: y takes the place of x, where y is no variable. In the renamed module y is what x was, x is nothing, and any
 -- other variable is what it was.

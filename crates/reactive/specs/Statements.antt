@@ -16,6 +16,10 @@ use Rattle.reactive.specs.Reactive.{Valuation, Agree, Variable, IsModule, Finite
 abbrev pub FitExactlyWhenAModuleWithinLimits : Type 0
 FitExactlyWhenAModuleWithinLimits = (m : Meaning) → (verdict m ≡ None) ↔ ((m.outline.fault ≡ None) × IsModule (module_of m) × Limits m)
 
+-- The types of a drawing's variables are finite and not empty, whatever the drawing.
+abbrev pub DrawingsHaveFiniteTypes : Type 0
+DrawingsHaveFiniteTypes = (m : Meaning) → FiniteTypes (module_of m)
+
 -- 32 values, 0 at each name that is no variable
 pub record Row (m : Meaning) (t : List ℕ) : Type 0 where
   pub long : length t ≡ 32

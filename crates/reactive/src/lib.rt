@@ -2,11 +2,32 @@
 //! theorem, its contract, so that no check passes without the theorem's proof.
 #![tactic(auto)]
 
-ghost use Rattle.reactive.specs.Statements.{FitExactlyWhenAModuleWithinLimits, StatesAreThePublishedOnes, JoinsAreCompositions, RenamesAreRenamings, HidesAreHidings, OperationsAreJudgedRightly, FitUnitsHaveAnOrder, FitUnitsCompleteEveryRound, FitUnitsHaveAnInitialState};
+ghost use Rattle.reactive.specs.Statements.{FitExactlyWhenAModuleWithinLimits, DrawingsHaveFiniteTypes, StatesAreThePublishedOnes, JoinsAreCompositions, RenamesAreRenamings, HidesAreHidings, OperationsAreJudgedRightly, FitUnitsHaveAnOrder, FitUnitsCompleteEveryRound, FitUnitsHaveAnInitialState};
+ghost use Rattle.reactive.specs.Theorems.{CompatibleModulesCompose, EveryModuleHasAnOrder, EveryOrderLeadsTheSame, EveryRoundCanBeCompleted};
 ghost use Rattle.reactive.specs.Piles.{JoinsAreMadeOfParts, RenamesAreMadeOfParts, HidesAreMadeOfParts};
+
+pub fn compatible_modules_compose()
+    ensures { CompatibleModulesCompose }
+{}
+
+pub fn every_module_has_an_order()
+    ensures { EveryModuleHasAnOrder }
+{}
+
+pub fn every_order_leads_the_same()
+    ensures { EveryOrderLeadsTheSame }
+{}
+
+pub fn every_round_can_be_completed()
+    ensures { EveryRoundCanBeCompleted }
+{}
 
 pub fn fit_units_are_modules()
     ensures { FitExactlyWhenAModuleWithinLimits }
+{}
+
+pub fn drawings_have_finite_types()
+    ensures { DrawingsHaveFiniteTypes }
 {}
 
 pub fn states_are_the_published_ones()
