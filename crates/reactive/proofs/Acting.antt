@@ -23,10 +23,10 @@ use Rattle.reactive.proofs.Leading.{Leading, alike_initially, leading_concerned}
 
 -- the rows that are listed for a set of names
 
-tops_length : (f : ℕ → ℕ) → length (map f (below 32)) ≡ 32
+pub tops_length : (f : ℕ → ℕ) → length (map f (below 32)) ≡ 32
 tops_length f = length-map (below 32) f ∙ length_below 32
 
-tops_at : (f : ℕ → ℕ) (i : ℕ) → i < 32 → get_or (map f (below 32)) i 0 ≡ f i
+pub tops_at : (f : ℕ → ℕ) (i : ℕ) → i < 32 → get_or (map f (below 32)) i 0 ≡ f i
 tops_at f i h = get_or-map f (below 32) i 0 0 (subst (λ n. i < n) (sym (length_below 32)) h) ∙ ap f (below_at 32 i h)
 
 module _ (o : OutlineFacts) (set : ℕ → Bool) where

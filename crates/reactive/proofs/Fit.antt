@@ -12,11 +12,14 @@ use Rattle.theory.proofs.Enumerations.{below_exact}
 use Rattle.units.specs.Sealing.{owned, badly_controlled, circular, sight, sees_too_much, gets_stuck, leaves_range, width, at_lowest, if_so, of_drawing, verdict}
 use Rattle.units.specs.declared.refusal.Refusal.TheVariants.{AwaitsItself, GetsStuck, LeavesRange, NotOneController, SeesTooMuch, TooWide}
 use Rattle.units.proofs.Evidence.{else_parts, else_from, at_lowest_parts, if_so_parts, of_drawing_parts}
-use Rattle.reactive.specs.Modules.{module_of, Limits}
+use Rattle.reactive.specs.Limits.{Limits}
+use Rattle.reactive.specs.Modules.{module_of}
 use Rattle.reactive.specs.Reactive.{Plus.one, IsDeclaration, IsModule}
 use Rattle.reactive.specs.Statements.{FitExactlyWhenAModuleWithinLimits, DrawingsHaveFiniteTypes}
 use Rattle.reactive.proofs.Acting.{Runs, runs_where, never_stuck, never_outside}
 use Rattle.reactive.proofs.Awaiting.{NoCircle, acyclic_from, no_circle}
+use Rattle.reactive.proofs.Counting.{at_most, at_most_back}
+use Rattle.reactive.proofs.Limits.{limits_of}
 use Rattle.reactive.proofs.Controlling.{WellControlled, controls_exactly, controls_once, well_controlled}
 use Rattle.reactive.proofs.Numbers.{numbers, numbers_all}
 use Rattle.reactive.proofs.States.{variable_from, variable_there}
@@ -92,10 +95,10 @@ module _ (m : Meaning) where
         sound = sound;
         controlled = well_controlled m (λ n c. (p.controls n).0 c) p.one_controller;
         uncircled = no_circle m p.acyclic;
-        sights = limits.sights;
+        sights = λ a l. at_most_back ((limits_of m).sight_counts a) 65536 (limits.sights a l);
         free = λ a l. never_stuck m a (runs a l);
         inside = λ a l. never_outside m a (runs a l);
-        ways = limits.ways;
+        ways = at_most_back (limits_of m).width_counts 1048576 limits.ways;
       }
     where
       runs : (a : ℕ) → a < m.outline.atoms → (r : Round) → Runs m a r
@@ -104,7 +107,7 @@ module _ (m : Meaning) where
 
 pub fit_exactly : FitExactlyWhenAModuleWithinLimits
 fit_exactly m = (
-  λ h. let p = passed m h in (p.sound, fit_module m p, record { sights = p.sights; ways = p.ways }),
+  λ h. let p = passed m h in (p.sound, fit_module m p, record { sights = λ a l. at_most ((limits_of m).sight_counts a) 65536 (p.sights a l); ways = at_most (limits_of m).width_counts 1048576 p.ways }),
   λ h. passes m (module_fit m h.0 h.1 h.2),
 )
 

@@ -3,7 +3,8 @@ use Rattle.std.proofs.Common.{◌≡◌, ◌↔◌, None}
 use Rattle.composition.specs.Meanings.{renamed, hidden, joined}
 use Rattle.model.specs.Meanings.{Meaning}
 use Rattle.units.specs.Sealing.{verdict}
-use Rattle.reactive.specs.Modules.{module_of, Limits}
+use Rattle.reactive.specs.Limits.{Limits}
+use Rattle.reactive.specs.Modules.{module_of}
 use Rattle.reactive.specs.Operations.{SameModule, composed, renamed_module, hidden_module}
 use Rattle.reactive.specs.Reactive.{Module, IsModule}
 use Rattle.reactive.specs.Statements.{OperationsAreJudgedRightly}

@@ -7,10 +7,10 @@ use Rattle.model.specs.Meanings.{Meaning}
 use Rattle.model.specs.States.{value, is_state, nothing, InitialState, Successor}
 use Rattle.model.proofs.States.{state_parts, state_from}
 use Rattle.units.specs.Sealing.{awaits_atom, awaits_through, verdict}
-use Rattle.reactive.specs.Modules.{Below, module_of}
+use Rattle.reactive.specs.Modules.{Below, module_of, Row}
 use Rattle.reactive.specs.Execution.{Consistent, IsOrder, CanBeCompleted}
 use Rattle.reactive.specs.Reactive.{Valuation, Agree, Variable, IsModule, IsState, IsInitial, Follows}
-use Rattle.reactive.specs.Statements.{Row, SameOutside, FitUnitsHaveAnOrder, FitUnitsCompleteEveryRound, FitUnitsHaveAnInitialState}
+use Rattle.reactive.specs.Statements.{SameOutside, FitUnitsHaveAnOrder, FitUnitsCompleteEveryRound, FitUnitsHaveAnInitialState}
 use Rattle.reactive.proofs.Chains.{step_from}
 use Rattle.reactive.proofs.Completing.{can_be_completed}
 use Rattle.reactive.proofs.Fit.{passed, fit_module}
@@ -51,7 +51,7 @@ module _ (m : Meaning) where
       go (inl t) = yes t
       go (inr f) = no (both_ways _ f)
 
-  row_of : (s : List ℕ) → is_state m.outline s ≡ true → Row m s
+  pub row_of : (s : List ℕ) → is_state m.outline s ≡ true → Row m s
   row_of s h = record { long = (state_parts m.outline s h).long; zero = state_zero m s h }
 
   states_of : (s : List ℕ) → is_state m.outline s ≡ true → IsState (module_of m) (value s)

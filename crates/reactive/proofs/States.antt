@@ -12,9 +12,9 @@ use Rattle.model.specs.declared.Round.{Round}
 use Rattle.model.specs.declared.Round.TheVariants.{Initial, Update}
 use Rattle.model.proofs.States.{state_parts, state_from, takes_parts, takes_from, yields_parts, yields_from}
 use Rattle.theory.specs.Members.{Member}
-use Rattle.reactive.specs.Modules.{Below, no_old, module_of}
+use Rattle.reactive.specs.Modules.{Below, no_old, module_of, Row}
 use Rattle.reactive.specs.Reactive.{Variable, IsState, IsInitial, Follows, IsTrajectory, GoesOn}
-use Rattle.reactive.specs.Statements.{Row, StatesAgree, StatesAreThePublishedOnes}
+use Rattle.reactive.specs.Statements.{StatesAgree, StatesAreThePublishedOnes}
 use Rattle.reactive.proofs.Leading.{Leading, alike_initially, leading_concerned, leading_from_taken, taken_from_leading}
 
 -- a variable is private, interface or external

@@ -1,8 +1,12 @@
+pub mod Counts
 pub mod Descriptions
 pub mod Execution
+pub mod Limits
 pub mod Modules
 pub mod Operations
+pub mod Outcomes
 pub mod Piles
 pub mod Reactive
+pub mod Runs
 pub mod Statements
 pub mod Theorems

@@ -1,10 +1,10 @@
--- The module that a drawing means, and the limits that sealing sets.
-use Rattle.std.specs.Prelude.{◌≡◌, ℕ, ◌+◌, ◌<◌, ◌≤◌, Bool, true, ℤ, pos, negsuc, Some}
+-- The module that a drawing means, and how its states are told.
+use Rattle.std.specs.Prelude.{◌≡◌, ℕ, ◌+◌, ◌<◌, ◌≤◌, Bool, true, false, List, length, ℤ, pos, negsuc, is_some, Some}
 use Rattle.model.specs.Meanings.{OutlineFacts, ChoiceFacts, Meaning}
+use Rattle.model.specs.States.{value}
 use Rattle.model.specs.declared.Kind.TheVariants.{Private, Interface, External}
 use Rattle.model.specs.declared.Round.{Round}
 use Rattle.model.specs.declared.Round.TheVariants.{Initial, Update}
-use Rattle.units.specs.Sealing.{sight, width}
 use Rattle.reactive.specs.Reactive.{Valuation, Atom, Module}
 
 -- The number that a choice gives, as a value. One below 0 is told as one above 255, which no variable may have either.
@@ -64,7 +64,7 @@ module_from o c =
 abbrev pub module_of : Meaning → Module
 module_of m = module_from m.outline m.acts
 
--- what sealing limits besides: how many value combinations an atom sees, and in how many ways a round can go
-pub record Limits (m : Meaning) : Type 0 where
-  pub sights : (a : ℕ) → a < m.outline.atoms → sight m.outline a ≤ 65536
-  pub ways : width m ≤ 1048576
+-- a state of the drawing is told by a row: 32 values, 0 at each name that is no variable
+pub record Row (m : Meaning) (t : List ℕ) : Type 0 where
+  pub long : length t ≡ 32
+  pub zero : (n : ℕ) → is_some (m.outline.kind n) ≡ false → value t n ≡ 0

@@ -148,3 +148,9 @@ abbrev pub EndsIn : List Valuation → Valuation → Type 0
 EndsIn [] t = ⊥
 EndsIn (s ∷ []) t = s ≡ t
 EndsIn (s ∷ (u ∷ later)) t = EndsIn (u ∷ later) t
+
+-- t ends an initialised trajectory
+pub record IsReachable (P : Module) (t : Valuation) : Type 0 where
+  pub run : List Valuation
+  pub trajectory : IsTrajectory P run
+  pub ends : EndsIn run t

@@ -1,13 +1,17 @@
 -- What the modules of drawings have to do with reactive modules.
-use Rattle.std.specs.Prelude.{◌≡◌, ℕ, true, false, ◌↔◌, List, map, length, is_some, Some, None}
+use Rattle.std.specs.Prelude.{◌≡◌, ℕ, true, false, ◌↔◌, List, map, Some, None}
 use Rattle.composition.specs.Faults.{fault_of_renamed, fault_of_hidden, fault_of_joined}
 use Rattle.composition.specs.Meanings.{renamed, hidden, joined}
 use Rattle.model.specs.Meanings.{Meaning}
 use Rattle.model.specs.States.{value, is_state, InitialState, Successor, Trajectory}
 use Rattle.model.specs.declared.Kind.TheVariants.{External}
 use Rattle.theory.specs.Members.{Member}
-use Rattle.units.specs.Sealing.{verdict}
-use Rattle.reactive.specs.Modules.{Below, module_of, Limits}
+use Rattle.units.specs.Evidence.{certificate_count}
+use Rattle.units.specs.Sealing.{sight, sees_too_much, width, too_wide, verdict}
+use Rattle.reactive.specs.Counts.{AtMost, Many}
+use Rattle.reactive.specs.Limits.{Sees, Way, Limits}
+use Rattle.reactive.specs.Modules.{Below, module_of, Row}
+use Rattle.reactive.specs.Outcomes.{CountedOver}
 use Rattle.reactive.specs.Execution.{IsOrder}
 use Rattle.reactive.specs.Operations.{composed, renamed_module, hidden_module, SameModule}
 use Rattle.reactive.specs.Reactive.{Valuation, Agree, Variable, IsModule, FiniteTypes, IsState, IsInitial, Follows, IsTrajectory}
@@ -16,14 +20,24 @@ use Rattle.reactive.specs.Reactive.{Valuation, Agree, Variable, IsModule, Finite
 abbrev pub FitExactlyWhenAModuleWithinLimits : Type 0
 FitExactlyWhenAModuleWithinLimits = (m : Meaning) → (verdict m ≡ None) ↔ ((m.outline.fault ≡ None) × IsModule (module_of m) × Limits m)
 
+-- The numbers that sealing compares with the limits are the counts of which the limits speak, and it finds an atom to see
+-- too much, or a drawing to be too wide, exactly where the limit is exceeded.
+pub record LimitsOf (m : Meaning) : Type 0 where
+  pub sight_counts : (a : ℕ) → Many (Sees m.outline a) (sight m.outline a)
+  pub width_counts : Many (Way m) (width m)
+  pub sights_judged : (a : ℕ) → (sees_too_much m.outline a ≡ false) ↔ AtMost (Sees m.outline a) 65536
+  pub ways_judged : (too_wide m ≡ false) ↔ AtMost (Way m) 1048576
+
+abbrev pub LimitsAreJudgedRightly : Type 0
+LimitsAreJudgedRightly = (m : Meaning) → LimitsOf m
+
+-- The count of an accepted certificate is how many outcomes there are, and no other number is.
+abbrev pub TheCountIsOfOutcomes : Type 0
+TheCountIsOfOutcomes = (m : Meaning) (ss : List (List ℕ)) (n : ℕ) → CountedOver m ss n ↔ (n ≡ certificate_count m ss)
+
 -- The types of a drawing's variables are finite and not empty, whatever the drawing.
 abbrev pub DrawingsHaveFiniteTypes : Type 0
 DrawingsHaveFiniteTypes = (m : Meaning) → FiniteTypes (module_of m)
-
--- 32 values, 0 at each name that is no variable
-pub record Row (m : Meaning) (t : List ℕ) : Type 0 where
-  pub long : length t ≡ 32
-  pub zero : (n : ℕ) → is_some (m.outline.kind n) ≡ false → value t n ≡ 0
 
 -- States, initial states, successors and trajectories are those of the reactive module, and each of its states is told
 -- by a row.

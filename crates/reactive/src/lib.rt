@@ -2,7 +2,8 @@
 //! theorem, its contract, so that no check passes without the theorem's proof.
 #![tactic(auto)]
 
-ghost use Rattle.reactive.specs.Statements.{FitExactlyWhenAModuleWithinLimits, DrawingsHaveFiniteTypes, StatesAreThePublishedOnes, JoinsAreCompositions, RenamesAreRenamings, HidesAreHidings, OperationsAreJudgedRightly, FitUnitsHaveAnOrder, FitUnitsCompleteEveryRound, FitUnitsHaveAnInitialState};
+ghost use Rattle.reactive.specs.Statements.{FitExactlyWhenAModuleWithinLimits, DrawingsHaveFiniteTypes, LimitsAreJudgedRightly, TheCountIsOfOutcomes, StatesAreThePublishedOnes, JoinsAreCompositions, RenamesAreRenamings, HidesAreHidings, OperationsAreJudgedRightly, FitUnitsHaveAnOrder, FitUnitsCompleteEveryRound, FitUnitsHaveAnInitialState};
+ghost use Rattle.reactive.specs.Runs.{TrajectoriesAreThePublishedOnes, ReachableStatesCanBeListed};
 ghost use Rattle.reactive.specs.Theorems.{CompatibleModulesCompose, EveryModuleHasAnOrder, EveryOrderLeadsTheSame, EveryRoundCanBeCompleted};
 ghost use Rattle.reactive.specs.Piles.{JoinsAreMadeOfParts, RenamesAreMadeOfParts, HidesAreMadeOfParts};
 
@@ -26,12 +27,28 @@ pub fn fit_units_are_modules()
     ensures { FitExactlyWhenAModuleWithinLimits }
 {}
 
+pub fn limits_are_judged_rightly()
+    ensures { LimitsAreJudgedRightly }
+{}
+
+pub fn the_count_is_of_outcomes()
+    ensures { TheCountIsOfOutcomes }
+{}
+
 pub fn drawings_have_finite_types()
     ensures { DrawingsHaveFiniteTypes }
 {}
 
 pub fn states_are_the_published_ones()
     ensures { StatesAreThePublishedOnes }
+{}
+
+pub fn trajectories_are_the_published_ones()
+    ensures { TrajectoriesAreThePublishedOnes }
+{}
+
+pub fn reachable_states_can_be_listed()
+    ensures { ReachableStatesCanBeListed }
 {}
 
 pub fn joins_are_compositions()

@@ -4,7 +4,8 @@ use Rattle.model.specs.Meanings.{Meaning}
 use Rattle.model.specs.States.{InitialState}
 use Rattle.model.specs.declared.Fault.{Fault}
 use Rattle.sealing.specs.Orders.{AtomsInOrder}
-use Rattle.reactive.specs.Modules.{module_of, Limits}
+use Rattle.reactive.specs.Limits.{Limits}
+use Rattle.reactive.specs.Modules.{module_of}
 use Rattle.reactive.specs.Reactive.{IsModule}
 use Rattle.reactive.specs.Statements.{CompletesRounds}
 use Rattle.unit.specs.Kept.{verdict_told}
