@@ -3,7 +3,7 @@ use Rattle.std.specs.Prelude.{ℕ, ◌+◌, List, [], ◌∷◌, ◌++◌, take,
 use Rattle.std.specs.List.{flat_map}
 use Rattle.composition.specs.Meanings.{renamed, hidden, joined}
 use Rattle.gates.specs.Meanings.{gates_meaning}
-use Rattle.language.specs.TableLaws.{table_meaning}
+use Rattle.language.specs.Meanings.{table_meaning}
 use Rattle.model.specs.Meanings.{Meaning}
 use Rattle.model.specs.declared.Fault.{Fault}
 use Rattle.theory.specs.Enumerations.{below as numbers_below}

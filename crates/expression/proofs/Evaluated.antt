@@ -3,7 +3,7 @@ use Rattle.std.proofs.Common.{◌≡◌, ℕ, ◌≤◌, Bool, true, false, ◌&
 use borrow.Author.Differences.{ints}
 use Rattle.std.proofs.lemmas.Bool.{and_from, and_parts}
 use Rattle.language.proofs.Expressions.{number_good, truth_good, whole_expressions_are_written}
-use Rattle.language.specs.ExpressionLaws.{number_read, truth_read, bad_good, number_low, number_high}
+use Rattle.language.specs.laws.Expressions.{number_read, truth_read, bad_good, number_low, number_high}
 use Rattle.language.specs.Expressions.{Number, constant, old_value, new_value, sum, difference, Truth, equal, less, negation, conjunction, disjunction, always, number_bytes, number_levels, truth_levels, number_value, truth_value, Seen, number_sees, truth_sees, Reading, good, bad, read_number, read_truth, to_the_end, whole_number, whole_truth}
 use Rattle.model.specs.Meanings.{Bytes}
 use Rattle.model.specs.States.{value}

@@ -3,6 +3,5 @@ pub mod Evaluated
 pub mod Here
 pub mod Promises
 pub mod Renamed
-pub mod Sight
 pub mod Steps
 pub mod Worths

@@ -6,7 +6,7 @@ use Rattle.std.proofs.lemmas.Bool.{eqb-false, ne_eqb, cond-false}
 use Rattle.std.specs.List.{slice_get}
 use Rattle.language.proofs.Expressions.{whole_expressions_are_written}
 use Rattle.language.proofs.Fronts.{fewer, expressions_are_read_from_the_front}
-use Rattle.language.specs.ExpressionLaws.{nth_inside}
+use Rattle.language.specs.laws.Expressions.{nth_inside}
 use Rattle.language.specs.Expressions.{Seen, number_bytes, truth_bytes, number_right, truth_right, Reading, good, bad, to_the_end, expression_fault, read_number, read_truth}
 use Rattle.language.specs.Fronts.{Same, EndsBefore, looked, Inside, FromFront}
 use Rattle.expression.specs.Checking.{read_end, ended, checked}

@@ -2,7 +2,7 @@
 use Rattle.std.proofs.Common.{◌≡◌, ℕ, zero, suc, ◌+◌, ◌-◌, ◌<◌, ◌≤◌, List, length, Some, None, Option, Result, Err, sym, refl, ap, ◌∙◌, arith}
 use Rattle.std.specs.List.{slice_get}
 use Rattle.std.specs.Option.{ok_or, SomeIff}
-use Rattle.language.specs.ExpressionLaws.{nth_inside, byte_is, none_some}
+use Rattle.language.specs.laws.Expressions.{nth_inside, byte_is, none_some}
 use Rattle.language.specs.Expressions.{Seen, byte_at, bad, after, judged, good_byte, number_operator, number_operands, read_number, truth_operator, truth_operands, read_truth}
 use Rattle.expression.specs.Operators.{number_operator_of, number_meant, truth_operator_of, truth_meant}
 use Rattle.expression.specs.declared.operators.NumberOperator.{NumberOperator}

@@ -4,7 +4,7 @@ use lib.Signed.{lt_z}
 use borrow.Author.Differences.{up, down, ints}
 use Rattle.std.proofs.lemmas.Int.{to_z-of_z}
 use Rattle.std.proofs.lemmas.Bool.{and_parts, leb-true, eqb-true, eqb-false, eq-eqb, ne_eqb}
-use Rattle.language.specs.ExpressionLaws.{number_read, leaves, number_bounded}
+use Rattle.language.specs.laws.Expressions.{number_read, leaves, number_bounded}
 use Rattle.language.specs.Expressions.{Number, constant, old_value, new_value, sum, difference, number_levels, eqZ, number_sees, byte_at, Reading, good, bad, after, judged, good_byte, read_byte, as_constant, as_name, one, two, read_number}
 use Rattle.model.specs.Meanings.{Bytes}
 use Rattle.model.specs.States.{value}

@@ -2,7 +2,7 @@
 use Rattle.std.proofs.Common.{◌≡◌, ℕ, zero, suc, ◌+◌, ◌<◌, ltb, List, [], ◌∷◌, ◌++◌, length, drop, Some, None, Option, ap, ◌∙◌, subst, add-one, arith}
 use Rattle.std.proofs.lemmas.Bool.{lt-ltb, cond-true}
 use Rattle.std.specs.List.{AllByRecursion as All, slice_get}
-use Rattle.language.specs.ExpressionLaws.{none_some, byte_is, Stands}
+use Rattle.language.specs.laws.Expressions.{none_some, byte_is, Stands}
 use Rattle.language.specs.Expressions.{as_byte}
 
 pub byte_of : (o : Option ℕ) (b : ℕ) → o ≡ Some b → b < 256 → as_byte o ≡ Some b

@@ -6,11 +6,11 @@ use Rattle.std.proofs.ByRecursion.{All-append}
 use Rattle.std.proofs.lemmas.List.{length-append, append-nil, append_cancel_left, drop_all}
 use Rattle.std.proofs.lemmas.Bool.{and_from, and_parts, ltb-true, leb-true, le-leb, eqb-true, eq-eqb, cond-true, false≢true}
 use Rattle.std.specs.List.{AllByRecursion as All}
-use Rattle.language.specs.ExpressionLaws.{Stands, stands_left, stands_right, number_read, truth_read, number_low, number_high, number_by_sight, truth_by_sight}
+use Rattle.language.specs.laws.Expressions.{Stands, stands_left, stands_right, number_read, truth_read, number_low, number_high, number_by_sight, truth_by_sight}
 use Rattle.language.specs.Expressions.{Number, constant, old_value, new_value, sum, difference, Truth, equal, less, negation, conjunction, disjunction, always, number_bytes, truth_bytes, number_levels, truth_levels, number_value, eqZ, Seen, number_sees, truth_sees, number_right, truth_right, byte_at, Reading, good, bad, after, judged, good_byte, read_byte, one, two, number_operator, truth_operator, as_constant, as_name, number_operands, read_number, truth_operands, read_truth, to_the_end}
 use Rattle.language.specs.Fronts.{Inside}
 use Rattle.language.specs.Statements.{ExpressionsReadBack, ReadingsAreWritten, FormsArePrefixFree, WholeExpressionsAreWritten, ValuesStayInRange, ComparisonsAreExact, ValuesGoBySight}
-use Rattle.language.specs.TableReading.{end_read}
+use Rattle.language.specs.laws.Reading.{end_read}
 use Rattle.language.proofs.Bytes.{stands_from, stands_drop}
 use Rattle.language.proofs.Fronts.{number_front, truth_front}
 

@@ -2,7 +2,7 @@
 use Rattle.std.proofs.Common.{◌≡◌, ℕ, zero, suc, ◌+◌, ◌<◌, ◌≤◌, ◌⊎◌, List, length, Some, None, Option, sym, refl, ap, ◌∙◌, subst, inl, inr, le_refl, arith}
 use Rattle.std.proofs.lemmas.Bool.{cases_lt}
 use Rattle.std.specs.List.{slice_get}
-use Rattle.language.specs.ExpressionLaws.{nth_inside}
+use Rattle.language.specs.laws.Expressions.{nth_inside}
 use Rattle.language.specs.Expressions.{old_value, new_value, sum, difference, equal, less, negation, conjunction, disjunction, always, Seen, as_byte, byte_at, Reading, good, bad, after, judged, good_byte, read_byte, one, two, NumberOperation, constant_follows, old_name_follows, new_name_follows, plus, minus, number_operator, TruthOperation, equals, less_than, not_follows, and_follows, or_follows, is_true, truth_operator, as_constant, as_name, number_operands, read_number, truth_operands, read_truth}
 use Rattle.language.specs.Fronts.{Same, EndsBefore, looked, Inside, FromFront}
 use Rattle.language.specs.Statements.{ExpressionsAreReadFromTheFront}

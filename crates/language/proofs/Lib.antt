@@ -1,4 +1,5 @@
 pub mod Bytes
+pub mod Counts
 pub mod Expressions
 pub mod Fronts
 pub mod Renaming

@@ -4,15 +4,18 @@ use Rattle.std.proofs.ByRecursion.{All-append}
 use Rattle.std.proofs.lemmas.List.{length-append, append-nil, take_at, drop_all}
 use Rattle.std.proofs.lemmas.Bool.{and_from, and_parts, le-leb, eq-eqb, eqb-true, cond-true}
 use Rattle.std.specs.List.{flat_map, AllByRecursion as All, slice_get}
+use Rattle.model.specs.Meanings.{most_choices}
 use Rattle.model.specs.declared.Kind.{Kind}
 use Rattle.model.specs.declared.Kind.TheVariants.{Private, Interface, External}
 use Rattle.model.specs.declared.Round.{Round}
 use Rattle.model.specs.declared.Round.TheVariants.{Initial, Update}
-use Rattle.language.specs.ExpressionLaws.{nth_inside, byte_is, Stands, stands_left, stands_right}
+use Rattle.language.specs.laws.Expressions.{nth_inside, byte_is, Stands, stands_left, stands_right}
 use Rattle.language.specs.Expressions.{Number, constant, old_value, new_value, sum, difference, Truth, equal, less, negation, conjunction, disjunction, always, number_bytes, truth_bytes, number_levels, truth_levels, Seen, number_sees, truth_sees, byte_at, Reading, good, read_number, read_truth, to_the_end, whole_number, whole_truth}
 use Rattle.language.specs.Statements.{TablesReadBack}
-use Rattle.language.specs.TableReading.{fine_same, table_read}
-use Rattle.language.specs.Tables.{TableVariable, TableChoice, TableAtom, TableSyntax, size, kind_byte, variable_bytes, word_bytes, with_length, number_item, choice_bytes, counts_bytes, atom_bytes, table_bytes, names_variables, names_own, seen_in, VariableRight, VariablesRight, TruthFits, NumberFits, ChoiceRight, ChoicesRight, AtomRight, TableRight, Step, fine, wrong, short, and_then, judgement, item, byte_item, if_passes, between, kind_of, joined_bytes, word_at, set_item, part_at, expression_judged, expression_of, expression_body, expression_item, many, read_variable, read_variables, read_choice, read_atom, read_table, opened, refused, at_end, table_opened}
+use Rattle.language.specs.laws.Reading.{fine_same, table_read}
+use Rattle.language.specs.declared.rules.Rule.{Rule}
+use Rattle.language.specs.declared.rules.Rule.TheVariants.{TooManyBytes, BytesMissing, WrongVariable, WrongAtom, WrongExpression, BytesLeftOver}
+use Rattle.language.specs.Tables.{TableVariable, TableChoice, TableAtom, TableSyntax, size, kind_byte, variable_bytes, word_bytes, with_length, number_item, choice_bytes, counts_bytes, atom_bytes, table_bytes, names_variables, names_own, seen_in, VariableRight, VariablesRight, TruthFits, NumberFits, ChoiceRight, ChoicesRight, AtomRight, TableRight, Step, fine, wrong, short, and_then, judgement, item, byte_item, if_passes, between, kind_of, joined_bytes, word_at, set_item, part_at, expression_judged, expression_of, expression_body, expression_item, many, read_variable, read_variables, read_choice, read_atom, read_table, opens_as, breaks, at_end, opening_of}
 use Rattle.language.proofs.Bytes.{stands_drop}
 use Rattle.language.proofs.Expressions.{itself, number_good, truth_good, number_in_bytes, truth_in_bytes}
 use Rattle.language.proofs.TableFronts.{opened_within}
@@ -29,11 +32,11 @@ stands_inside bs k (x ∷ xs) h stands =
     let here : k < length bs = nth_inside bs k x (byte_is (slice_get bs k) x stands.0) in
     omega (arith, stands_inside bs (k + 1) xs (omega arith) stands.1)
 
-byte_fine : {X : Type 0} (number : ℕ) (judge : ℕ → Option X) (bs : List ℕ) (k b : ℕ) (x : X) → byte_at bs k ≡ Some b → judge b ≡ Some x → byte_item number judge bs k ≡ fine x (k + 1)
-byte_fine number judge bs k b x e h = ap (item number k (k + 1) judge) e ∙ ap (judgement number k (k + 1)) h
+byte_fine : {X : Type 0} (rule : Rule) (judge : ℕ → Option X) (bs : List ℕ) (k b : ℕ) (x : X) → byte_at bs k ≡ Some b → judge b ≡ Some x → byte_item rule judge bs k ≡ fine x (k + 1)
+byte_fine rule judge bs k b x e h = ap (item rule k (k + 1) judge) e ∙ ap (judgement rule k (k + 1)) h
 
-limited_fine : (number low high : ℕ) (bs : List ℕ) (k b : ℕ) → byte_at bs k ≡ Some b → low ≤ b → b ≤ high → byte_item number (between low high) bs k ≡ fine b (k + 1)
-limited_fine number low high bs k b e l h = byte_fine number (between low high) bs k b b e (cond-true _ _ _ (and_from (leb low b) (leb b high) (le-leb low b l) (le-leb b high h)))
+limited_fine : (rule : Rule) (low high : ℕ) (bs : List ℕ) (k b : ℕ) → byte_at bs k ≡ Some b → low ≤ b → b ≤ high → byte_item rule (between low high) bs k ≡ fine b (k + 1)
+limited_fine rule low high bs k b e l h = byte_fine rule (between low high) bs k b b e (cond-true _ _ _ (and_from (leb low b) (leb b high) (le-leb low b l) (le-leb b high h)))
 
 kind_back : (kind : Kind) → kind_of (kind_byte kind) ≡ Some kind
 kind_back Private = refl
@@ -43,9 +46,9 @@ kind_back External = refl
 variable_fine : (lowest : ℕ) (bs : List ℕ) (k : ℕ) (v : TableVariable) → VariableRight lowest v → Stands bs k (variable_bytes v) → read_variable lowest bs k ≡ fine v (k + length (variable_bytes v))
 unfolding read_variable
 variable_fine lowest bs k v h stands =
-    then_fine (byte_item 3 (between lowest 31) bs k) _ v.name (k + 1) _ (limited_fine 3 lowest 31 bs k v.name stands.0 h.name_low h.name_high)
-    (then_fine (byte_item 3 kind_of bs (k + 1)) _ v.kind (k + 1 + 1) _ (byte_fine 3 kind_of bs (k + 1) (kind_byte v.kind) v.kind stands.1.0 (kind_back v.kind))
-    (then_fine (byte_item 3 (between 1 255) bs (k + 1 + 1)) _ v.top (k + 1 + 1 + 1) _ (limited_fine 3 1 255 bs (k + 1 + 1) v.top stands.1.1.0 h.top_low h.top_high)
+    then_fine (byte_item WrongVariable (between lowest 31) bs k) _ v.name (k + 1) _ (limited_fine WrongVariable lowest 31 bs k v.name stands.0 h.name_low h.name_high)
+    (then_fine (byte_item WrongVariable kind_of bs (k + 1)) _ v.kind (k + 1 + 1) _ (byte_fine WrongVariable kind_of bs (k + 1) (kind_byte v.kind) v.kind stands.1.0 (kind_back v.kind))
+    (then_fine (byte_item WrongVariable (between 1 255) bs (k + 1 + 1)) _ v.top (k + 1 + 1 + 1) _ (limited_fine WrongVariable 1 255 bs (k + 1 + 1) v.top stands.1.1.0 h.top_low h.top_high)
     (fine_at v (k + 1 + 1 + 1) (k + 3) (omega arith))))
 
 variables_fine : (lowest : ℕ) (bs : List ℕ) (k : ℕ) (vs : List TableVariable) → VariablesRight lowest vs → Stands bs k (flat_map variable_bytes vs) → read_variables lowest (length vs) bs k ≡ fine vs (k + length (flat_map variable_bytes vs))
@@ -72,7 +75,7 @@ set_fine test bs k w small passes stands =
     let fourth : byte_at bs (k + 3) ≡ Some (w % 256) = subst (λ i. byte_at bs i ≡ Some (w % 256)) (three_on k) stands.1.1.1.0 in
     let found : word_at bs k ≡ Some w =
     ap₂ joined_bytes (ap₂ joined_bytes (ap₂ joined_bytes stands.0 stands.1.0) third) fourth ∙ ap Some (word_back w small) in
-    ap (item 4 k (k + 4) (if_passes test)) found ∙ ap (judgement 4 k (k + 4)) (cond-true (test w) (Some w) None passes)
+    ap (item WrongAtom k (k + 4) (if_passes test)) found ∙ ap (judgement WrongAtom k (k + 4)) (cond-true (test w) (Some w) None passes)
   where
     two_on : (k : ℕ) → k + 1 + 1 ≡ k + 2
     two_on k = omega arith
@@ -90,7 +93,7 @@ module _ {X : Type 0} (read : List ℕ → ℕ → Reading X) (form : X → List
       ap (take n) (stands_drop bs (k + 1) (k + 1 + n) (form x) stands.1 refl) ∙ take_at (form x) (drop (k + 1 + n) bs) n refl in
       let there : part_at bs (k + 1) n ≡ Some (form x) = cond-true _ _ _ (le-leb (k + 1 + n) (length bs) room) ∙ ap Some part in
       let judged : whole (form x) ≡ good x (0 + n) = ap (to_the_end n) reads ∙ cond-true _ _ _ (eq-eqb (0 + n) n (omega arith)) in
-      then_fine (byte_item 5 (between 1 64) bs k) (expression_body whole bs) n (k + 1) _ (limited_fine 5 1 64 bs k n stands.0 low high)
+      then_fine (byte_item WrongExpression (between 1 64) bs k) (expression_body whole bs) n (k + 1) _ (limited_fine WrongExpression 1 64 bs k n stands.0 low high)
       (ap (expression_of whole (k + 1) (k + 1 + n)) there ∙ ap (expression_judged (k + 1) (k + 1 + n)) judged ∙ fine_at x (k + 1 + n) (k + suc n) (omega arith))
 
 number_some : (e : Number) → 1 ≤ length (number_bytes e)
@@ -186,8 +189,8 @@ atom_fine vs bs k a h within stands =
     seen r = seen_in r a.reads a.awaits
 
     choices : (j : ℕ) → Stands bs j rest₃ → j + 1 + 1 ≤ length bs →
-        and_then (byte_item 4 (between 1 8) bs j) (λ initials k.
-        and_then (byte_item 4 (between 1 8) bs k) (λ updates k.
+        and_then (byte_item WrongAtom (between 1 (most_choices Initial)) bs j) (λ initials k.
+        and_then (byte_item WrongAtom (between 1 (most_choices Update)) bs k) (λ updates k.
         and_then (many (read_choice (seen_in Initial a.reads a.awaits) (size a.controls)) initials bs k) (λ initial k.
         and_then (many (read_choice (seen_in Update a.reads a.awaits) (size a.controls)) updates bs k) (λ update end.
         fine (record { controls = a.controls; reads = a.reads; awaits = a.awaits; initial = initial; update = update }) end)))) ≡ fine a (j + 1 + 1 + length initial + length update)
@@ -195,8 +198,8 @@ atom_fine vs bs k a h within stands =
         let i = h.initial_right in let u = h.update_right in
         let next : ℕ = j + 1 + 1 + length initial in
         let first : Stands bs (j + 1 + 1) initial = stands_left bs (j + 1 + 1) initial update stands.1.1 in
-        then_fine (byte_item 4 (between 1 8) bs j) _ (length a.initial) (j + 1) _ (limited_fine 4 1 8 bs j (length a.initial) stands.0 i.some_choice i.few_choices)
-        (then_fine (byte_item 4 (between 1 8) bs (j + 1)) _ (length a.update) (j + 1 + 1) _ (limited_fine 4 1 8 bs (j + 1) (length a.update) stands.1.0 u.some_choice u.few_choices)
+        then_fine (byte_item WrongAtom (between 1 (most_choices Initial)) bs j) _ (length a.initial) (j + 1) _ (limited_fine WrongAtom 1 (most_choices Initial) bs j (length a.initial) stands.0 i.some_choice i.few_choices)
+        (then_fine (byte_item WrongAtom (between 1 (most_choices Update)) bs (j + 1)) _ (length a.update) (j + 1 + 1) _ (limited_fine WrongAtom 1 (most_choices Update) bs (j + 1) (length a.update) stands.1.0 u.some_choice u.few_choices)
         (then_fine (many (read_choice (seen_in Initial a.reads a.awaits) (size a.controls)) (length a.initial) bs (j + 1 + 1)) _ a.initial next _
         (many_fine (read_choice (seen Initial) (size a.controls)) choice_bytes (ChoiceRight (seen Initial) (size a.controls)) (choice_fine (seen Initial) (size a.controls)) bs (j + 1 + 1) a.initial i.each room first)
         (then_fine (many (read_choice (seen_in Update a.reads a.awaits) (size a.controls)) (length a.update) bs next) _ a.update (next + length update) _
@@ -211,9 +214,9 @@ table_fine bs k t h within stands =
     let second : Stands bs (k + 1) variables = stands_left bs (k + 1) variables (length t.atoms ∷ atoms) stands.1 in
     let rest : Stands bs next (length t.atoms ∷ atoms) = stands_right bs (k + 1) next variables (length t.atoms ∷ atoms) refl stands.1 in
     let all = length-append variables (length t.atoms ∷ atoms) in
-    then_fine (byte_item 3 (between 0 32) bs k) _ (length t.variables) (k + 1) _ (limited_fine 3 0 32 bs k (length t.variables) stands.0 (zero-le) h.few_variables)
+    then_fine (byte_item WrongVariable (between 0 32) bs k) _ (length t.variables) (k + 1) _ (limited_fine WrongVariable 0 32 bs k (length t.variables) stands.0 (zero-le) h.few_variables)
     (then_fine (read_variables 0 (length t.variables) bs (k + 1)) _ t.variables next _ (variables_fine 0 bs (k + 1) t.variables h.variables_right second)
-    (then_fine (byte_item 4 (between 0 16) bs next) _ (length t.atoms) (next + 1) _ (limited_fine 4 0 16 bs next (length t.atoms) rest.0 (zero-le) h.few_atoms)
+    (then_fine (byte_item WrongAtom (between 0 16) bs next) _ (length t.atoms) (next + 1) _ (limited_fine WrongAtom 0 16 bs next (length t.atoms) rest.0 (zero-le) h.few_atoms)
     (then_fine (many (read_atom t.variables) (length t.atoms) bs (next + 1)) _ t.atoms (next + 1 + length atoms) _
     (many_fine (read_atom t.variables) atom_bytes (AtomRight t.variables) (atom_fine t.variables) bs (next + 1) t.atoms h.atoms_right (reached k (length variables) (length atoms) (length (variables ++ (length t.atoms ∷ atoms))) (length bs) all (stands_inside bs k (table_bytes t) within stands)) rest.1)
     (fine_at t (next + 1 + length atoms) _ (total k (length variables) (length atoms) (length (variables ++ (length t.atoms ∷ atoms))) all)))))
@@ -249,8 +252,8 @@ choice_in_bytes s count c h =
     (omega (arith, h.guard_fits.short_enough), truth_in_bytes s c.guard (truth_sees_of s c.guard h.guard_fits))
     (all_joined (NumberFits s) number_item (λ e f. (omega (arith, f.short_enough), number_in_bytes s e (number_sees_of s e f))) c.gives h.gives_fit)
 
-choices_in_bytes : (s : Seen) (count : ℕ) (cs : List TableChoice) → ChoicesRight s count cs → All (λ b. b < 256) (flat_map choice_bytes cs)
-choices_in_bytes s count cs h = all_joined (ChoiceRight s count) choice_bytes (choice_in_bytes s count) cs h.each
+choices_in_bytes : (r : Round) (s : Seen) (count : ℕ) (cs : List TableChoice) → ChoicesRight r s count cs → All (λ b. b < 256) (flat_map choice_bytes cs)
+choices_in_bytes r s count cs h = all_joined (ChoiceRight s count) choice_bytes (choice_in_bytes s count) cs h.each
 
 atom_in_bytes : (vs : List TableVariable) (a : TableAtom) → AtomRight vs a → All (λ b. b < 256) (atom_bytes a)
 atom_in_bytes vs a h =
@@ -260,7 +263,7 @@ atom_in_bytes vs a h =
     (All-append P (word_bytes a.reads) (word_bytes a.awaits ++ (counts_bytes a ++ choices)) (word_in_bytes a.reads)
     (All-append P (word_bytes a.awaits) (counts_bytes a ++ choices) (word_in_bytes a.awaits)
     (All-append P (counts_bytes a) choices (omega (arith, h.initial_right.few_choices), (omega (arith, h.update_right.few_choices), tt))
-    (All-append P (flat_map choice_bytes a.initial) (flat_map choice_bytes a.update) (choices_in_bytes _ _ a.initial h.initial_right) (choices_in_bytes _ _ a.update h.update_right)))))
+    (All-append P (flat_map choice_bytes a.initial) (flat_map choice_bytes a.update) (choices_in_bytes Initial _ _ a.initial h.initial_right) (choices_in_bytes Update _ _ a.update h.update_right)))))
 
 table_in_bytes : (t : TableSyntax) → TableRight t → All (λ b. b < 256) (table_bytes t)
 table_in_bytes t h = (
@@ -274,30 +277,30 @@ table_in_bytes t h = (
 form_read : (t : TableSyntax) → TableRight t → read_table (table_bytes t) 0 ≡ fine t (length (table_bytes t))
 form_read t h = table_fine (table_bytes t) 0 t h (zero-le) (itself (table_bytes t) (table_in_bytes t h)) ∙ fine_at t (0 + length (table_bytes t)) (length (table_bytes t)) (zero-add (length (table_bytes t)))
 
-back : (t : TableSyntax) → TableRight t → length (table_bytes t) ≤ 4096 → table_opened (table_bytes t) ≡ opened t
+back : (t : TableSyntax) → TableRight t → length (table_bytes t) ≤ 4096 → opening_of (table_bytes t) ≡ opens_as t
 back t h few =
     opened_within (table_bytes t) few ∙ ap (at_end (length (table_bytes t))) (form_read t h) ∙ cond-true _ _ _ (eq-eqb (length (table_bytes t)) (length (table_bytes t)) refl)
 
-refused_opened : {P : Type 0} (number place : ℕ) (t : TableSyntax) → refused number place ≡ opened t → P
-refused_opened number place t e = let z : ◌≡◌ {A = ℕ} 0 1 = cc in absurd (omega arith)
+breaks_opens : {P : Type 0} (rule : Rule) (place : ℕ) (t : TableSyntax) → breaks rule place ≡ opens_as t → P
+breaks_opens rule place t e = let z : ◌≡◌ {A = ℕ} 0 1 = cc in absurd (omega arith)
 
-opened_same : (t u : TableSyntax) → opened t ≡ opened u → t ≡ u
+opened_same : (t u : TableSyntax) → opens_as t ≡ opens_as u → t ≡ u
 opened_same t u e = cc
 
-whole_read : (bs : List ℕ) (t : TableSyntax) → table_opened bs ≡ opened t → read_table bs 0 ≡ fine t (length bs)
+whole_read : (bs : List ℕ) (t : TableSyntax) → opening_of bs ≡ opens_as t → read_table bs 0 ≡ fine t (length bs)
 whole_read bs t e = go (ltb 4096 (length bs)) e
   where
-    test : (u : TableSyntax) (end : ℕ) → read_table bs 0 ≡ fine u end → (b : Bool) → eqb end (length bs) ≡ b → cond b (opened u) (refused 6 end) ≡ opened t → read_table bs 0 ≡ fine t (length bs)
+    test : (u : TableSyntax) (end : ℕ) → read_table bs 0 ≡ fine u end → (b : Bool) → eqb end (length bs) ≡ b → cond b (opens_as u) (breaks BytesLeftOver end) ≡ opens_as t → read_table bs 0 ≡ fine t (length bs)
     test u end is true f e = is ∙ ap₂ fine (opened_same u t e) (eqb-true end (length bs) f)
-    test u end is false f e = refused_opened 6 end t e
+    test u end is false f e = breaks_opens BytesLeftOver end t e
 
-    by : (r : Step TableSyntax) → read_table bs 0 ≡ r → at_end (length bs) r ≡ opened t → read_table bs 0 ≡ fine t (length bs)
+    by : (r : Step TableSyntax) → read_table bs 0 ≡ r → at_end (length bs) r ≡ opens_as t → read_table bs 0 ≡ fine t (length bs)
     by (fine u end) is e = test u end is (eqb end (length bs)) refl e
-    by (wrong number place end) is e = refused_opened number place t e
-    by short is e = refused_opened 2 (length bs) t e
+    by (wrong rule place end) is e = breaks_opens rule place t e
+    by short is e = breaks_opens BytesMissing (length bs) t e
 
-    go : (b : Bool) → cond b (refused 1 0) (at_end (length bs) (read_table bs 0)) ≡ opened t → read_table bs 0 ≡ fine t (length bs)
-    go true e = refused_opened 1 0 t e
+    go : (b : Bool) → cond b (breaks TooManyBytes 0) (at_end (length bs) (read_table bs 0)) ≡ opens_as t → read_table bs 0 ≡ fine t (length bs)
+    go true e = breaks_opens TooManyBytes 0 t e
     go false e = by (read_table bs 0) refl e
 
 pub tables_read_back : TablesReadBack

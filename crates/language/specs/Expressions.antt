@@ -1,7 +1,7 @@
 -- Expressions: what they say, how they are written as bytes, and how bytes are read. Operators stand first.
 -- Numbers: `0 v` is v; `1 n` is the old and `2 n` the new value of n; `3 a b` is a + b; `4 a b` is a − b.
 -- Truths: `16 a b` equal; `17 a b` a less than b; `18 p` not; `19 p q` and; `20 p q` or; `21` true.
-use Rattle.std.specs.Prelude.{ℕ, zero, suc, ◌+◌, max, Bool, true, false, cond, not, ◌&&◌, ◌||◌, List, [], ◌∷◌, ◌++◌, length, ℤ, pos, negsuc, ◌+ℤ◌, ◌-ℤ◌, Some, None, Option, ◌==◌, int_lt, nat_le, nat_lt}
+use Rattle.std.specs.Prelude.{◌≡◌, ℕ, zero, suc, ◌+◌, max, Bool, true, false, cond, not, ◌&&◌, ◌||◌, List, [], ◌∷◌, ◌++◌, length, ℤ, pos, negsuc, ◌+ℤ◌, ◌-ℤ◌, Some, None, Option, ◌==◌, int_lt, nat_le, nat_lt}
 use Rattle.std.specs.List.{slice_get}
 use Rattle.model.specs.Exchange.{exchange}
 use Rattle.model.specs.Meanings.{Valuation}
@@ -79,6 +79,11 @@ truth_value always old new = true
 pub record Seen : Type 0 where
   pub old : ℕ → Bool
   pub new : ℕ → Bool
+
+-- two pairs of old and new values agree on the names seen
+pub record Agree (s : Seen) (old new old' new' : Valuation) : Type 0 where
+  pub old_same : (n : ℕ) → s.old n ≡ true → old n ≡ old' n
+  pub new_same : (n : ℕ) → s.new n ≡ true → new n ≡ new' n
 
 -- constants are bytes, and names are seen bytes
 abbrev pub number_sees : Seen → Number → Bool

@@ -1,7 +1,7 @@
-pub mod ExpressionLaws
 pub mod Expressions
 pub mod Fronts
+pub mod Meanings
+pub mod Rules
 pub mod Statements
-pub mod TableLaws
-pub mod TableReading
 pub mod Tables
+pub mod laws

@@ -2,10 +2,12 @@
 use Rattle.std.specs.Prelude.{◌≡◌, ℕ, ◌+◌, ◌<◌, ◌≤◌, true, false, List, [], ◌∷◌, ◌++◌, length, take, drop, replicate, ℤ, pos, negsuc, ◌≤ℤ◌, ◌<ℤ◌, Some, None, Decides, Option, ◌≢◌, slice_set}
 use Rattle.model.specs.Meanings.{Valuation, Bytes}
 use Rattle.model.specs.declared.Fault.{Fault}
-use Rattle.language.specs.ExpressionLaws.{Agree}
-use Rattle.language.specs.Expressions.{Number, Truth, equal, less, number_bytes, truth_bytes, number_value, truth_value, Seen, number_sees, truth_sees, number_right, truth_right, good, bad, read_number, read_truth, whole_number, whole_truth, expression_fault, swapped, seen_swapped, number_renamed, truth_renamed, operator, bytes_renamed}
+use Rattle.language.specs.Expressions.{Agree, Number, Truth, equal, less, number_bytes, truth_bytes, number_value, truth_value, Seen, number_sees, truth_sees, number_right, truth_right, good, bad, read_number, read_truth, whole_number, whole_truth, expression_fault, swapped, seen_swapped, number_renamed, truth_renamed, operator, bytes_renamed}
 use Rattle.language.specs.Fronts.{Same, FromFront}
-use Rattle.language.specs.Tables.{TableSyntax, table_bytes, TableRight, opened, refused, table_opened, table_fault}
+use Rattle.language.specs.Rules.{judges_items}
+use Rattle.language.specs.declared.rules.Rule.{Rule}
+use Rattle.language.specs.declared.rules.Rule.TheVariants.{TooManyBytes, BytesMissing, WrongAtom, BytesLeftOver}
+use Rattle.language.specs.Tables.{TableSyntax, table_bytes, TableRight, opens_as, breaks, opening_of, table_fault}
 
 -- the written form of a right expression, wherever it stands and whatever follows it, is read as that expression
 pub record ExpressionsReadBack : Type 0 where
@@ -100,35 +102,34 @@ pub record RenamingExchangesNames : Type 0 where
 
 -- the written form of a right table opens as that table, and whatever opens is the written form of exactly one right table
 pub record TablesReadBack : Type 0 where
-  pub read_back : (t : TableSyntax) → TableRight t → length (table_bytes t) ≤ 4096 → table_opened (table_bytes t) ≡ opened t
-  pub written : (bs : List ℕ) (t : TableSyntax) → table_opened bs ≡ opened t → TableRight t × (bs ≡ table_bytes t)
+  pub read_back : (t : TableSyntax) → TableRight t → length (table_bytes t) ≤ 4096 → opening_of (table_bytes t) ≡ opens_as t
+  pub written : (bs : List ℕ) (t : TableSyntax) → opening_of bs ≡ opens_as t → TableRight t × (bs ≡ table_bytes t)
   pub once : (t u : TableSyntax) → TableRight t → TableRight u → table_bytes t ≡ table_bytes u → t ≡ u
 
 -- A fault of an item that ends before place `upto`: it lies within the item or just past it, nothing that comes after the
 -- item makes a difference, and a string that is cut short before the item's end lacks bytes and has no other fault. A set
 -- is judged as a whole; in any other item the bytes up to the place decide, where the item is all there.
-pub record FirstFault (bs : List ℕ) (number place : ℕ) : Type 0 where
+pub record FirstFault (bs : List ℕ) (rule : Rule) (place : ℕ) : Type 0 where
   pub upto : ℕ
   pub place_within : place ≤ upto
   pub upto_within : upto ≤ length bs
-  pub same : (cs : List ℕ) → length cs ≤ 4096 → Same bs cs upto → table_opened cs ≡ refused number place
-  pub cut : (n : ℕ) → n < upto → table_opened (take n bs) ≡ refused 2 n
-  pub decided : (number ≢ 4) → (cs : List ℕ) → length cs ≤ 4096 → upto ≤ length cs → Same bs cs (place + 1) → table_opened cs ≡ refused number place
+  pub same : (cs : List ℕ) → length cs ≤ 4096 → Same bs cs upto → opening_of cs ≡ breaks rule place
+  pub cut : (n : ℕ) → n < upto → opening_of (take n bs) ≡ breaks BytesMissing n
+  pub decided : (rule ≢ WrongAtom) → (cs : List ℕ) → length cs ≤ 4096 → upto ≤ length cs → Same bs cs (place + 1) → opening_of cs ≡ breaks rule place
 
 -- the bytes up to the place are a whole table
 pub record LeftOver (bs : List ℕ) (place : ℕ) : Type 0 where
   pub within : place < length bs
   pub table : TableSyntax
-  pub whole : table_opened (take place bs) ≡ opened table
+  pub whole : opening_of (take place bs) ≡ opens_as table
 
 pub record FaultsAreTheFirst : Type 0 where
-  pub numbers : (bs : List ℕ) (number place : ℕ) → table_opened bs ≡ refused number place → (1 ≤ number) × (number ≤ 6)
-  pub too_long : (bs : List ℕ) → 4096 < length bs → table_opened bs ≡ refused 1 0
-  pub too_long_only : (bs : List ℕ) (place : ℕ) → table_opened bs ≡ refused 1 place → 4096 < length bs
-  pub missing : (bs : List ℕ) (place : ℕ) → table_opened bs ≡ refused 2 place →
-      (place ≡ length bs) × ((n : ℕ) → n ≤ place → table_opened (take n bs) ≡ refused 2 n)
-  pub judged : (bs : List ℕ) (number place : ℕ) → 3 ≤ number → number ≤ 5 → table_opened bs ≡ refused number place → FirstFault bs number place
-  pub left_over : (bs : List ℕ) (place : ℕ) → table_opened bs ≡ refused 6 place → LeftOver bs place
+  pub too_long : (bs : List ℕ) → 4096 < length bs → opening_of bs ≡ breaks TooManyBytes 0
+  pub too_long_only : (bs : List ℕ) (place : ℕ) → opening_of bs ≡ breaks TooManyBytes place → 4096 < length bs
+  pub missing : (bs : List ℕ) (place : ℕ) → opening_of bs ≡ breaks BytesMissing place →
+      (place ≡ length bs) × ((n : ℕ) → n ≤ place → opening_of (take n bs) ≡ breaks BytesMissing n)
+  pub judged : (bs : List ℕ) (rule : Rule) (place : ℕ) → judges_items rule ≡ true → opening_of bs ≡ breaks rule place → FirstFault bs rule place
+  pub left_over : (bs : List ℕ) (place : ℕ) → opening_of bs ≡ breaks BytesLeftOver place → LeftOver bs place
 
 -- One variable, name 0, interface, top 1; one atom that controls and reads it: it starts at 0, and an update gives
 -- its old value taken from 1.

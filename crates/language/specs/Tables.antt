@@ -1,13 +1,16 @@
--- Byte tables: what they say, how they are written, how they are opened, and what they mean.
+-- Byte tables: what they say, how they are written, how they are opens_as, and what they mean.
 use Rattle.std.specs.Prelude.{◌≡◌, ℕ, zero, suc, ◌+◌, ◌*◌, ◌/◌, ◌%◌, ◌^◌, ◌<◌, ◌≤◌, Bool, true, false, cond, ◌&&◌, List, [], ◌∷◌, ◌++◌, length, take, drop, ℤ, pos, is_some, Some, None, Option, ◌==◌, nat_le, nat_lt}
 use Rattle.std.specs.List.{flat_map, AllByRecursion, slice_get}
-use Rattle.model.specs.Meanings.{Valuation, OutlineFacts, ChoiceFacts}
+use Rattle.model.specs.Meanings.{Valuation, OutlineFacts, ChoiceFacts, most_choices}
 use Rattle.model.specs.Tests.{every, some, implies, count}
 use Rattle.model.specs.declared.Fault.{Fault}
 use Rattle.model.specs.declared.Kind.{Kind}
 use Rattle.model.specs.declared.Kind.TheVariants.{Private, Interface, External}
 use Rattle.model.specs.declared.Round.{Round}
 use Rattle.model.specs.declared.Round.TheVariants.{Initial, Update}
+use Rattle.language.specs.Rules.{rule_fault}
+use Rattle.language.specs.declared.rules.Rule.{Rule}
+use Rattle.language.specs.declared.rules.Rule.TheVariants.{TooManyBytes, BytesMissing, WrongVariable, WrongAtom, WrongExpression, BytesLeftOver}
 use Rattle.language.specs.Expressions.{Number, Truth, number_bytes, truth_bytes, number_value, truth_value, Seen, number_right, truth_right, byte_at, Reading, good, bad, whole_number, whole_truth}
 
 pub record TableVariable : Type 0 where
@@ -131,10 +134,10 @@ pub record ChoiceRight (s : Seen) (count : ℕ) (c : TableChoice) : Type 0 where
   pub gives_count : length c.gives ≡ count
   pub gives_fit : AllByRecursion (NumberFits s) c.gives
 
--- 1 to 8 right choices
-pub record ChoicesRight (s : Seen) (count : ℕ) (cs : List TableChoice) : Type 0 where
+-- right choices, at least one and as many as the round allows
+pub record ChoicesRight (r : Round) (s : Seen) (count : ℕ) (cs : List TableChoice) : Type 0 where
   pub some_choice : 1 ≤ length cs
-  pub few_choices : length cs ≤ 8
+  pub few_choices : length cs ≤ most_choices r
   pub each : AllByRecursion (ChoiceRight s count) cs
 
 pub record AtomRight (vs : List TableVariable) (a : TableAtom) : Type 0 where
@@ -144,8 +147,8 @@ pub record AtomRight (vs : List TableVariable) (a : TableAtom) : Type 0 where
   pub controls_own : names_own vs a.controls ≡ true
   pub reads_known : names_variables vs a.reads ≡ true
   pub awaits_known : names_variables vs a.awaits ≡ true
-  pub initial_right : ChoicesRight (seen_in Initial a.reads a.awaits) (size a.controls) a.initial
-  pub update_right : ChoicesRight (seen_in Update a.reads a.awaits) (size a.controls) a.update
+  pub initial_right : ChoicesRight Initial (seen_in Initial a.reads a.awaits) (size a.controls) a.initial
+  pub update_right : ChoicesRight Update (seen_in Update a.reads a.awaits) (size a.controls) a.update
 
 pub record TableRight (t : TableSyntax) : Type 0 where
   pub few_variables : length t.variables ≤ 32
@@ -155,30 +158,30 @@ pub record TableRight (t : TableSyntax) : Type 0 where
 
 -- ---- opening
 
--- What reading a part gives: the part and the place after it; a fault, by its number, its place and the end of the
--- item that was judged; or that bytes are missing.
+-- What reading a part gives: the part and the place after it; a fault, by the rule that is broken, its place and the end of
+-- the item that was judged; or that bytes are missing.
 pub data Step (X : Type 0) : Type 0 where
   fine : X → ℕ → Step X
-  wrong : ℕ → ℕ → ℕ → Step X
+  wrong : Rule → ℕ → ℕ → Step X
   short : Step X
 
 abbrev pub and_then : {X Y : Type 0} → Step X → (X → ℕ → Step Y) → Step Y
 and_then (fine x end) next = next x end
-and_then (wrong number place end) next = wrong number place end
+and_then (wrong rule place end) next = wrong rule place end
 and_then short next = short
 
 -- an item is judged when it is all there
-abbrev pub judgement : {X : Type 0} → ℕ → ℕ → ℕ → Option X → Step X
-judgement number place end None = wrong number place end
-judgement number place end (Some x) = fine x end
+abbrev pub judgement : {X : Type 0} → Rule → ℕ → ℕ → Option X → Step X
+judgement rule place end None = wrong rule place end
+judgement rule place end (Some x) = fine x end
 
-abbrev pub item : {A X : Type 0} → ℕ → ℕ → ℕ → (A → Option X) → Option A → Step X
-item number place end judge None = short
-item number place end judge (Some a) = judgement number place end (judge a)
+abbrev pub item : {A X : Type 0} → Rule → ℕ → ℕ → (A → Option X) → Option A → Step X
+item rule place end judge None = short
+item rule place end judge (Some a) = judgement rule place end (judge a)
 
--- a byte at place k; if it is wrong the fault has this number
-abbrev pub byte_item : {X : Type 0} → ℕ → (ℕ → Option X) → List ℕ → ℕ → Step X
-byte_item number judge bs k = item number k (k + 1) judge (byte_at bs k)
+-- a byte at place k; if it is wrong this rule is broken
+abbrev pub byte_item : {X : Type 0} → Rule → (ℕ → Option X) → List ℕ → ℕ → Step X
+byte_item rule judge bs k = item rule k (k + 1) judge (byte_at bs k)
 
 abbrev pub if_passes : {A : Type 0} → (A → Bool) → A → Option A
 if_passes test a = cond (test a) (Some a) None
@@ -199,7 +202,7 @@ abbrev pub word_at : List ℕ → ℕ → Option ℕ
 word_at bs k = joined_bytes (joined_bytes (joined_bytes (byte_at bs k) (byte_at bs (k + 1))) (byte_at bs (k + 2))) (byte_at bs (k + 3))
 
 abbrev pub set_item : (ℕ → Bool) → List ℕ → ℕ → Step ℕ
-set_item test bs k = item 4 k (k + 4) (if_passes test) (word_at bs k)
+set_item test bs k = item WrongAtom k (k + 4) (if_passes test) (word_at bs k)
 
 -- the bytes from place k on, as many as said, if all are there
 abbrev pub part_at : List ℕ → ℕ → ℕ → Option (List ℕ)
@@ -208,7 +211,7 @@ part_at bs k size = cond (nat_le (k + size) (length bs)) (Some (take size (drop 
 -- an expression that stands from place k up to `end`
 abbrev pub expression_judged : {X : Type 0} → ℕ → ℕ → Reading X → Step X
 expression_judged k end (good x _) = fine x end
-expression_judged k end (bad place) = wrong 5 (k + place) end
+expression_judged k end (bad place) = wrong WrongExpression (k + place) end
 
 abbrev pub expression_of : {X : Type 0} → (List ℕ → Reading X) → ℕ → ℕ → Option (List ℕ) → Step X
 expression_of whole k end None = short
@@ -218,7 +221,7 @@ abbrev pub expression_body : {X : Type 0} → (List ℕ → Reading X) → List 
 expression_body whole bs size k = expression_of whole k (k + size) (part_at bs k size)
 
 abbrev pub expression_item : {X : Type 0} → (List ℕ → Reading X) → List ℕ → ℕ → Step X
-expression_item whole bs k = and_then (byte_item 5 (between 1 64) bs k) (expression_body whole bs)
+expression_item whole bs k = and_then (byte_item WrongExpression (between 1 64) bs k) (expression_body whole bs)
 
 -- so many parts, one after the other
 unfoldable pub many : {X : Type 0} → (List ℕ → ℕ → Step X) → ℕ → List ℕ → ℕ → Step (List X)
@@ -227,9 +230,9 @@ many read (suc n) bs k = and_then (read bs k) (λ x next. and_then (many read n 
 
 unfoldable pub read_variable : ℕ → List ℕ → ℕ → Step TableVariable
 read_variable lowest bs k =
-    and_then (byte_item 3 (between lowest 31) bs k) (λ name k.
-    and_then (byte_item 3 kind_of bs k) (λ kind k.
-    and_then (byte_item 3 (between 1 255) bs k) (λ top end.
+    and_then (byte_item WrongVariable (between lowest 31) bs k) (λ name k.
+    and_then (byte_item WrongVariable kind_of bs k) (λ kind k.
+    and_then (byte_item WrongVariable (between 1 255) bs k) (λ top end.
     fine (record { name = name; kind = kind; top = top }) end)))
 
 -- so many variables, names rising from `lowest`
@@ -249,48 +252,48 @@ read_atom vs bs k =
     and_then (set_item (names_own vs) bs k) (λ controls k.
     and_then (set_item (names_variables vs) bs k) (λ reads k.
     and_then (set_item (names_variables vs) bs k) (λ awaits k.
-    and_then (byte_item 4 (between 1 8) bs k) (λ initials k.
-    and_then (byte_item 4 (between 1 8) bs k) (λ updates k.
+    and_then (byte_item WrongAtom (between 1 (most_choices Initial)) bs k) (λ initials k.
+    and_then (byte_item WrongAtom (between 1 (most_choices Update)) bs k) (λ updates k.
     and_then (many (read_choice (seen_in Initial reads awaits) (size controls)) initials bs k) (λ initial k.
     and_then (many (read_choice (seen_in Update reads awaits) (size controls)) updates bs k) (λ update end.
     fine (record { controls = controls; reads = reads; awaits = awaits; initial = initial; update = update }) end)))))))
 
 unfoldable pub read_table : List ℕ → ℕ → Step TableSyntax
 read_table bs k =
-    and_then (byte_item 3 (between 0 32) bs k) (λ count k.
+    and_then (byte_item WrongVariable (between 0 32) bs k) (λ count k.
     and_then (read_variables 0 count bs k) (λ variables k.
-    and_then (byte_item 4 (between 0 16) bs k) (λ count k.
+    and_then (byte_item WrongAtom (between 0 16) bs k) (λ count k.
     and_then (many (read_atom variables) count bs k) (λ atoms end.
     fine (record { variables = variables; atoms = atoms }) end))))
 
--- a table, or the number and the place of its first fault
-pub data Opened : Type 0 where
-  opened : TableSyntax → Opened
-  refused : ℕ → ℕ → Opened
+-- a table, or the rule and the place of the first fault
+pub data Opening : Type 0 where
+  opens_as : TableSyntax → Opening
+  breaks : Rule → ℕ → Opening
 
 -- what reading a string of so many bytes comes to
-abbrev pub at_end : ℕ → Step TableSyntax → Opened
-at_end all (fine t end) = cond (end == all) (opened t) (refused 6 end)
-at_end all (wrong number place end) = refused number place
-at_end all short = refused 2 all
+abbrev pub at_end : ℕ → Step TableSyntax → Opening
+at_end all (fine t end) = cond (end == all) (opens_as t) (breaks BytesLeftOver end)
+at_end all (wrong rule place end) = breaks rule place
+at_end all short = breaks BytesMissing all
 
-abbrev pub table_opened : List ℕ → Opened
-table_opened bs = cond (nat_lt 4096 (length bs)) (refused 1 0) (at_end (length bs) (read_table bs 0))
+abbrev pub opening_of : List ℕ → Opening
+opening_of bs = cond (nat_lt 4096 (length bs)) (breaks TooManyBytes 0) (at_end (length bs) (read_table bs 0))
 
-abbrev pub fault_of : Opened → Option Fault
-fault_of (opened t) = None
-fault_of (refused number place) = Some (record { number = number; layer = 0; place = place })
+abbrev pub fault_of : Opening → Option Fault
+fault_of (opens_as t) = None
+fault_of (breaks rule place) = Some (rule_fault rule place)
 
-abbrev pub syntax_of : Opened → TableSyntax
-syntax_of (opened t) = t
-syntax_of (refused number place) = no_table
+abbrev pub syntax_of : Opening → TableSyntax
+syntax_of (opens_as t) = t
+syntax_of (breaks rule place) = no_table
 
 abbrev pub table_fault : List ℕ → Option Fault
-table_fault bs = fault_of (table_opened bs)
+table_fault bs = fault_of (opening_of bs)
 
 -- the table, or one without variables and atoms where there is a fault
 abbrev pub table_of : List ℕ → TableSyntax
-table_of bs = syntax_of (table_opened bs)
+table_of bs = syntax_of (opening_of bs)
 
 -- ---- what a table means
 
@@ -306,8 +309,8 @@ abbrev pub in_set : (TableAtom → ℕ) → Option TableAtom → ℕ → Bool
 in_set set None n = false
 in_set set (Some a) n = bit (set a) n
 
-abbrev pub outline_of : Option Fault → TableSyntax → OutlineFacts
-outline_of fault t =
+abbrev pub syntax_outline : Option Fault → TableSyntax → OutlineFacts
+syntax_outline fault t =
     record {
       fault = fault;
       layers = 1;
@@ -320,13 +323,13 @@ outline_of fault t =
     }
 
 abbrev pub table_outline : List ℕ → OutlineFacts
-table_outline bs = outline_of (table_fault bs) (table_of bs)
+table_outline bs = syntax_outline (table_fault bs) (table_of bs)
 
-abbrev pub choices_of : Round → Option TableAtom → List TableChoice
-choices_of Initial None = []
-choices_of Update None = []
-choices_of Initial (Some a) = a.initial
-choices_of Update (Some a) = a.update
+abbrev pub choices_in : Round → Option TableAtom → List TableChoice
+choices_in Initial None = []
+choices_in Update None = []
+choices_in Initial (Some a) = a.initial
+choices_in Update (Some a) = a.update
 
 abbrev pub choice_opens : Option TableChoice → Valuation → Valuation → Bool
 choice_opens None old new = false
@@ -347,12 +350,12 @@ given true place c old new = value_of (slice_get (numbers_of c) place) old new
 
 abbrev pub atom_gives : Round → Option TableAtom → ℕ → ℕ → Valuation → Valuation → ℤ
 atom_gives r None k n old new = pos 0
-atom_gives r (Some a) k n old new = given (bit a.controls n) (count (bit a.controls) n) (slice_get (choices_of r (Some a)) k) old new
+atom_gives r (Some a) k n old new = given (bit a.controls n) (count (bit a.controls) n) (slice_get (choices_in r (Some a)) k) old new
 
 abbrev pub table_acts : TableSyntax → ChoiceFacts
 table_acts t =
     record {
-      choices = λ r a. length (choices_of r (slice_get t.atoms a));
-      opens = λ r a k. choice_opens (slice_get (choices_of r (slice_get t.atoms a)) k);
+      choices = λ r a. length (choices_in r (slice_get t.atoms a));
+      opens = λ r a k. choice_opens (slice_get (choices_in r (slice_get t.atoms a)) k);
       gives = λ r a. atom_gives r (slice_get t.atoms a);
     }

@@ -1,8 +1,12 @@
-//! Expressions and byte tables. The definitions are in specs/; each function here does nothing and stands for a theorem on
-//! them, its contract, so that no check passes without the theorem's proof.
+//! Expressions and byte tables, and the rules that tables may break. The definitions are in specs/; each function here that does
+//! nothing stands for a theorem on them, its contract, so that no check passes without the theorem's proof.
 #![tactic(auto)]
 
 ghost use Rattle.language.specs.Statements.{ExpressionsReadBack, ReadingsAreWritten, FormsArePrefixFree, WholeExpressionsAreWritten, ExpressionsAreReadFromTheFront, ValuesStayInRange, ComparisonsAreExact, ValuesGoBySight, RenamingExchangesNames, TablesReadBack, FaultsAreTheFirst, WorkedFaults, WorkedLevels};
+
+mod rules;
+
+pub use rules::Rule;
 
 pub fn expressions_read_back()
     ensures { ExpressionsReadBack }

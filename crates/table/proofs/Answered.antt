@@ -1,20 +1,21 @@
 -- What an answer says of the step that it tells.
 use Rattle.std.proofs.Common.{◌≡◌, ℕ, List, length, Ok, Err, Result, sym, refl, ap, ◌∙◌, subst}
+use Rattle.language.specs.declared.rules.Rule.TheVariants.{BytesMissing}
 use Rattle.language.specs.Tables.{Step, fine, wrong, short, and_then}
-use Rattle.model.specs.Faults.{own}
+use Rattle.language.specs.Rules.{rule_fault}
 use Rattle.model.specs.declared.Fault.{Fault}
 use Rattle.table.specs.Reads.{told, end_told, passed, placed, Passes, Tells, Told, Reads}
 use Rattle.table.specs.declared.reader.Reader.{Reader}
 
 pub told_fine : {X : Type 0} (all : ℕ) (s : Step X) (x : X) (end : ℕ) → Ok (x, end) ≡ told all s → s ≡ fine x end
 told_fine {X} all (fine y last) x end e = let both : (y, last) ≡ (x, end) = cc in ap (λ (got : X × ℕ). fine got.0 got.1) both
-told_fine all (wrong number place last) x end e = cc
+told_fine all (wrong rule place last) x end e = cc
 told_fine all short x end e = cc
 
 pub told_stops : {X : Type 0} (all : ℕ) (s : Step X) (fault : Fault) → Err fault ≡ told all s → end_told all s ≡ Err fault
 told_stops all (fine y last) fault e = cc
-told_stops all (wrong number place last) fault e = let same : own number place ≡ fault = cc in ap Err same
-told_stops all short fault e = let same : own 2 all ≡ fault = cc in ap Err same
+told_stops all (wrong rule place last) fault e = let same : rule_fault rule place ≡ fault = cc in ap Err same
+told_stops all short fault e = let same : rule_fault BytesMissing all ≡ fault = cc in ap Err same
 
 -- a part that ends here
 pub record Ends {X : Type 0} (s : Step X) (end : ℕ) : Type 0 where
@@ -23,13 +24,13 @@ pub record Ends {X : Type 0} (s : Step X) (end : ℕ) : Type 0 where
 
 pub told_ends : {X : Type 0} (all : ℕ) (s : Step X) (end : ℕ) → Ok end ≡ end_told all s → Ends s end
 told_ends all (fine y last) end e = let same : last ≡ end = cc in record { part = y; read = ap (fine y) same }
-told_ends all (wrong number place last) end e = cc
+told_ends all (wrong rule place last) end e = cc
 told_ends all short end e = cc
 
 -- a step that stops stops what follows
 pub then_stops : {X Y : Type 0} (all : ℕ) (s : Step X) (next : X → ℕ → Step Y) (fault : Fault) → end_told all s ≡ Err fault → end_told all (and_then s next) ≡ Err fault
 then_stops all (fine y last) next fault e = cc
-then_stops all (wrong number place last) next fault e = e
+then_stops all (wrong rule place last) next fault e = e
 then_stops all short next fault e = e
 
 -- a step that goes well goes on to what follows

@@ -1,7 +1,9 @@
 -- An atom that is read, part by part.
 use Rattle.std.proofs.Common.{◌≡◌, ℕ, List, Ok, Err, Result, ◌∙◌, subst}
 use Rattle.language.specs.Expressions.{Seen}
+use Rattle.language.specs.declared.rules.Rule.TheVariants.{WrongAtom}
 use Rattle.language.specs.Tables.{TableVariable, size, seen_in, names_own, names_variables, between, byte_item, set_item, many, read_choice, read_atom}
+use Rattle.model.specs.Meanings.{most_choices}
 use Rattle.model.specs.declared.Fault.{Fault}
 use Rattle.model.specs.declared.Round.{Round}
 use Rattle.model.specs.declared.Round.TheVariants.{Initial, Update}
@@ -41,16 +43,16 @@ module _ (vs : List TableVariable) (r0 : Reader) where
       awaits_stop s = then_go _ c (then_go _ d (then_stop _ s))
 
       module _ {r3 : Reader} {awaits : NameSet} (e : Reads NamesOf (set_item (names_variables vs)) r2 r3 (Ok awaits)) where
-        pub initials_stop : {r : Reader} {fault : Fault} → Tells (byte_item 4 (between 1 8)) r3 r (Err fault) → Gives r (Err fault)
+        pub initials_stop : {r : Reader} {fault : Fault} → Tells (byte_item WrongAtom (between 1 (most_choices Initial))) r3 r (Err fault) → Gives r (Err fault)
         unfolding read_atom
         initials_stop s = then_go _ c (then_go _ d (then_go _ e (tell_stop _ s)))
 
-        module _ {r4 : Reader} {initials : ℕ} (f : Tells (byte_item 4 (between 1 8)) r3 r4 (Ok initials)) where
-          pub updates_stop : {r : Reader} {fault : Fault} → Tells (byte_item 4 (between 1 8)) r4 r (Err fault) → Gives r (Err fault)
+        module _ {r4 : Reader} {initials : ℕ} (f : Tells (byte_item WrongAtom (between 1 (most_choices Initial))) r3 r4 (Ok initials)) where
+          pub updates_stop : {r : Reader} {fault : Fault} → Tells (byte_item WrongAtom (between 1 (most_choices Update))) r4 r (Err fault) → Gives r (Err fault)
           unfolding read_atom
           updates_stop s = then_go _ c (then_go _ d (then_go _ e (tell_go _ f (tell_stop _ s))))
 
-          module _ {r5 : Reader} {updates : ℕ} (g : Tells (byte_item 4 (between 1 8)) r4 r5 (Ok updates)) where
+          module _ {r5 : Reader} {updates : ℕ} (g : Tells (byte_item WrongAtom (between 1 (most_choices Update))) r4 r5 (Ok updates)) where
             abbrev sees : Round → Seen
             sees round = seen_in round d.told.part e.told.part
 

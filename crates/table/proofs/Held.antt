@@ -1,20 +1,21 @@
--- What a table keeps is what it was opened from.
+-- What a table keeps is what it was opens_as from.
 use Rattle.std.proofs.Common.{◌≡◌, ℕ, ◌<◌, ◌≤◌, ◌⊎◌, List, length, replicate, Ok, Err, Result, sym, ap, ◌∙◌, subst, inl, inr, arith}
 use Rattle.std.proofs.lemmas.List.{length-replicate}
 use Rattle.std.proofs.lemmas.Bool.{cases_lt}
 use Rattle.model.specs.declared.Fault.{Fault}
 use Rattle.model.specs.declared.row.Row.{Row}
 use Rattle.language.proofs.TableFronts.{faults_are_the_first}
-use Rattle.language.specs.Tables.{TableSyntax, opened, refused, fault_of, table_opened}
+use Rattle.language.specs.declared.rules.Rule.TheVariants.{TooManyBytes}
+use Rattle.language.specs.Tables.{TableSyntax, opens_as, breaks, fault_of, opening_of}
 use Rattle.table.specs.Read.{Opens, Read}
 use Rattle.table.specs.declared.parts.Layout.{Layout}
 use Rattle.table.specs.Contents.{Copied, held}
 
-pub opened_short : (bs : List ℕ) (t : TableSyntax) → table_opened bs ≡ opened t → length bs ≤ 4096
+pub opened_short : (bs : List ℕ) (t : TableSyntax) → opening_of bs ≡ opens_as t → length bs ≤ 4096
 opened_short bs t e = go (cases_lt 4096 (length bs))
   where
     go : (4096 < length bs) ⊎ (length bs ≤ 4096) → length bs ≤ 4096
-    go (inl h) = let clash : opened t ≡ refused 1 0 = sym e ∙ faults_are_the_first.too_long bs h in cc
+    go (inl h) = let clash : opens_as t ≡ breaks TooManyBytes 0 = sym e ∙ faults_are_the_first.too_long bs h in cc
     go (inr h) = h
 
 module _ (bs : List ℕ) (r : Result (Row ℕ 4096) ℕ) (copied : Copied bs r) where
@@ -25,11 +26,11 @@ module _ (bs : List ℕ) (r : Result (Row ℕ 4096) ℕ) (copied : Copied bs r) 
       go (Ok row) same = same
       go (Err _) long = absurd (omega (arith, long.1))
 
-  pub held_opened : table_opened (held r) ≡ table_opened bs
+  pub held_opened : opening_of (held r) ≡ opening_of bs
   held_opened = go r copied
     where
-      go : (o : Result (Row ℕ 4096) ℕ) → Copied bs o → table_opened (held o) ≡ table_opened bs
-      go (Ok row) same = ap table_opened same
+      go : (o : Result (Row ℕ 4096) ℕ) → Copied bs o → opening_of (held o) ≡ opening_of bs
+      go (Ok row) same = ap opening_of same
       go (Err n) long = faults_are_the_first.too_long (replicate n 0) (omega (arith, long, length-replicate {A = ℕ} n 0)) ∙ sym (faults_are_the_first.too_long bs long.1)
 
   pub held_found : (found : Result Layout Fault) → Read bs found → Read (held r) found

@@ -17,12 +17,12 @@ behind made s = and_then s (λ xs end. fine (made ++ xs) end)
 
 pub behind_none : {X : Type 0} (s : Step (List X)) → s ≡ behind [] s
 behind_none (fine xs end) = refl
-behind_none (wrong number place end) = refl
+behind_none (wrong rule place end) = refl
 behind_none short = refl
 
 pub behind_more : {X : Type 0} (made : List X) (x : X) (s : Step (List X)) → behind made (and_then s (λ xs end. fine (x ∷ xs) end)) ≡ behind (made ++ (x ∷ [])) s
 behind_more made x (fine xs end) = ap (λ l. fine l end) (sym (append_assoc made (x ∷ []) xs))
-behind_more made x (wrong number place end) = refl
+behind_more made x (wrong rule place end) = refl
 behind_more made x short = refl
 
 pub behind_all : {X : Type 0} (made : List X) (k : ℕ) → behind made (fine [] k) ≡ fine made k

@@ -4,8 +4,9 @@ use mathlib.Core.Path.{fun_ext}
 use Rattle.std.proofs.lemmas.Bool.{lt-ltb, cond-true, cond-false}
 use Rattle.std.proofs.lemmas.Bool.Decides.{nat_tests}
 use Rattle.std.specs.Option.{option_map}
+use Rattle.language.specs.declared.rules.Rule.TheVariants.{BytesMissing, WrongAtom}
 use Rattle.language.specs.Tables.{TableVariable, bit, fine, own_kind, size, variable_at, is_own, names_own, names_variables, judgement, item, if_passes, word_at, set_item}
-use Rattle.model.specs.Faults.{own}
+use Rattle.language.specs.Rules.{rule_fault}
 use Rattle.model.specs.Sets.{has}
 use Rattle.model.specs.Tests.{every, some, implies, count}
 use Rattle.model.specs.declared.Fault.{Fault}
@@ -63,21 +64,21 @@ pub size_same : (w : ℕ) (names : NameSet) → NamesOf w names → count (has n
 size_same w names h = ap (λ p. count p 32) (fun_ext h)
 
 -- a set whose four bytes are there
-set_at : (p : ℕ → Bool) (bs : List ℕ) (k w next : ℕ) → any_word bs k ≡ fine w next → set_item p bs k ≡ judgement 4 k next (if_passes p w)
+set_at : (p : ℕ → Bool) (bs : List ℕ) (k w next : ℕ) → any_word bs k ≡ fine w next → set_item p bs k ≡ judgement WrongAtom k next (if_passes p w)
 set_at p bs k w next e = go (word_at bs k) e
   where
-    go : (o : Option ℕ) → item 2 k (k + 4) Some o ≡ fine w next → item 4 k (k + 4) (if_passes p) o ≡ judgement 4 k next (if_passes p w)
+    go : (o : Option ℕ) → item BytesMissing k (k + 4) Some o ≡ fine w next → item WrongAtom k (k + 4) (if_passes p) o ≡ judgement WrongAtom k next (if_passes p w)
     go None e = cc
-    go (Some v) e = let word : v ≡ w = cc in let end : k + 4 ≡ next = cc in ap (λ n. judgement 4 k n (if_passes p v)) end ∙ ap (λ n. judgement 4 k next (if_passes p n)) word
+    go (Some v) e = let word : v ≡ w = cc in let end : k + 4 ≡ next = cc in ap (λ n. judgement WrongAtom k n (if_passes p v)) end ∙ ap (λ n. judgement WrongAtom k next (if_passes p n)) word
 
 module _ {old new : Reader} {w : ℕ} (p : ℕ → Bool) (r : Tells any_word old new (Ok w)) where
-  word_at_old : set_item p old.bytes.now old.place ≡ judgement 4 old.place new.place (if_passes p w)
+  word_at_old : set_item p old.bytes.now old.place ≡ judgement WrongAtom old.place new.place (if_passes p w)
   word_at_old = set_at p old.bytes.now old.place w new.place (told_fine (length old.bytes.now) (any_word old.bytes.now old.place) w new.place r.told)
 
   pub set_fine : {names : NameSet} → NamesOf w names → true ≡ p w → Reads NamesOf (set_item p) old new (Ok names)
-  set_fine h t = record { same = r.same; told = record { part = w; read = word_at_old ∙ ap (judgement 4 old.place new.place) (cond-true (p w) (Some w) None (sym t)); made = h } }
+  set_fine h t = record { same = r.same; told = record { part = w; read = word_at_old ∙ ap (judgement WrongAtom old.place new.place) (cond-true (p w) (Some w) None (sym t)); made = h } }
 
-  pub set_wrong : {fault : Fault} → fault ≡ own 4 old.place → false ≡ p w → Reads NamesOf (set_item p) old new (Err fault)
+  pub set_wrong : {fault : Fault} → fault ≡ rule_fault WrongAtom old.place → false ≡ p w → Reads NamesOf (set_item p) old new (Err fault)
   set_wrong {fault} e t =
       let all = length old.bytes.now in
-      record { same = r.same; told = ap (end_told all) (word_at_old ∙ ap (judgement 4 old.place new.place) (cond-false (p w) (Some w) None (sym t))) ∙ ap Err (sym e) }
+      record { same = r.same; told = ap (end_told all) (word_at_old ∙ ap (judgement WrongAtom old.place new.place) (cond-false (p w) (Some w) None (sym t))) ∙ ap Err (sym e) }

@@ -5,9 +5,9 @@ use Rattle.std.proofs.lemmas.List.{length-append, length-drop}
 use Rattle.std.proofs.lemmas.Option.{get_or_from_slice_get}
 use Rattle.std.specs.List.{slice_get}
 use Rattle.language.proofs.Bytes.{stands_drop}
-use Rattle.language.specs.ExpressionLaws.{none_some, Stands, byte_is}
+use Rattle.language.specs.laws.Expressions.{none_some, Stands, byte_is}
 use Rattle.language.specs.Expressions.{Number, Seen, number_bytes, truth_bytes, whole_number, whole_truth}
-use Rattle.language.specs.TableReading.{then_read, fine_same, truth_item_read, number_item_read, choice_read}
+use Rattle.language.specs.laws.Reading.{then_read, fine_same, truth_item_read, number_item_read, choice_read}
 use Rattle.language.specs.Tables.{TableChoice, with_length, fine, and_then, expression_item, many, read_choice}
 use Rattle.table.specs.Asked.{ChoiceStands}
 use Rattle.table.specs.Items.{after_item, item_bytes, item_place}

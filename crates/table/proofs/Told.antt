@@ -1,7 +1,8 @@
--- What an opened table tells is what its bytes say.
+-- What an opens_as table tells is what its bytes say.
 use Rattle.model.specs.Tests.{count}
-use Rattle.std.proofs.Common.{Bor, ◌≡◌, ℕ, zero, suc, ◌+◌, ◌<◌, ◌≤◌, Bool, true, false, cond, List, [], length, get_or, Some, None, Ok, Err, Option, Result, sym, refl, ap, ◌∙◌, subst, zero-le, arith}
+use Rattle.std.proofs.Common.{Bor, ◌≡◌, ℕ, zero, suc, ◌+◌, ◌<◌, ◌≤◌, Bool, true, List, [], length, get_or, Some, None, Ok, Err, Option, Result, sym, refl, ap, ◌∙◌, subst, arith}
 use mathlib.Core.Logic.{∥∥₁_elim, ∥∥₁_map}
+use mathlib.Core.Path.{fun_ext}
 use native.Mathlib.Bridge.{le_prop}
 use base.Stored.{Coded-set, coded_ℕ, coded_list}
 use std.Logic.{∥∥₁_prop}
@@ -18,10 +19,10 @@ use Rattle.model.specs.Sets.{NameSet}
 use Rattle.model.specs.declared.Fault.{Fault}
 use Rattle.model.specs.declared.Round.{Round}
 use Rattle.model.specs.declared.Round.TheVariants.{Initial, Update}
-use Rattle.language.proofs.Steps.{rank_within}
-use Rattle.language.specs.ExpressionLaws.{none_some}
-use Rattle.language.specs.TableLaws.{table_meaning}
-use Rattle.language.specs.Tables.{TableAtom, TableChoice, bit, size, Opened, opened, refused, table_opened, fault_of, syntax_of, table_fault, table_of, in_set, choices_of, numbers_of, seen_in}
+use Rattle.language.proofs.Counts.{count_few, count_below}
+use Rattle.language.specs.laws.Expressions.{none_some}
+use Rattle.language.specs.Meanings.{table_meaning}
+use Rattle.language.specs.Tables.{TableAtom, TableChoice, bit, size, Opening, opens_as, breaks, opening_of, fault_of, syntax_of, table_fault, table_of, in_set, choices_in, numbers_of, seen_in}
 use Rattle.table.specs.Laid.{Laid, AtomLaid, ChoiceLaid, ChoicesLaid}
 use Rattle.table.specs.Rows.{Paired}
 use Rattle.table.specs.Variables.{at}
@@ -97,13 +98,13 @@ module _ (t : Table) (l : Layout) (e : Some l ≡ result_ok t.found) where
 -- ---- an atom's choices
 
 atom_short : (bs : List ℕ) (i : ℕ) (a : TableAtom) → slice_get (table_of bs).atoms i ≡ Some a → length bs ≤ 4096
-atom_short bs i a e = go (table_opened bs) refl e
+atom_short bs i a e = go (opening_of bs) refl e
   where
-    go : (o : Opened) → table_opened bs ≡ o → slice_get (syntax_of o).atoms i ≡ Some a → length bs ≤ 4096
-    go (opened s) is e = opened_short bs s is
-    go (refused number place) is e = none_some a e
+    go : (o : Opening) → opening_of bs ≡ o → slice_get (syntax_of o).atoms i ≡ Some a → length bs ≤ 4096
+    go (opens_as s) is e = opened_short bs s is
+    go (breaks rule place) is e = none_some a e
 
-choices_laid : (bs : List ℕ) (a : TableAtom) (l : AtomLayout) (r : Round) → AtomLaid bs a l → ChoicesLaid bs (seen_in r a.reads a.awaits) (size a.controls) (choices_of r (Some a)) (layout_in r l)
+choices_laid : (bs : List ℕ) (a : TableAtom) (l : AtomLayout) (r : Round) → AtomLaid bs a l → ChoicesLaid bs (seen_in r a.reads a.awaits) (size a.controls) (choices_in r (Some a)) (layout_in r l)
 choices_laid bs a l Initial h = h.initial
 choices_laid bs a l Update h = h.update
 
@@ -117,8 +118,8 @@ module _ (t : Table) (i : ℕ) (l : AtomLayout) (found : ∥ AtomFound (contents
 
   pub choice_at : (k : ℕ) → ∥ ChoiceFound (contents t) (controlled (atom_of t i)) (choice_of t r i k) (slice_get (listed (layout_in r l)) k) ∥₁
   choice_at k =
-      by_atom (λ o. ∥ ChoiceFound (contents t) (controlled o) (slice_get (choices_of r o) k) (slice_get (listed (layout_in r l)) k) ∥₁) (λ o. ∥∥₁_prop)
-      (λ a is h. ∣ stand a is (slice_get (choices_of r (Some a)) k) (slice_get (listed (layout_in r l)) k) ((choices_laid (contents t) a l r h).each k) ∣₁)
+      by_atom (λ o. ∥ ChoiceFound (contents t) (controlled o) (slice_get (choices_in r o) k) (slice_get (listed (layout_in r l)) k) ∥₁) (λ o. ∥∥₁_prop)
+      (λ a is h. ∣ stand a is (slice_get (choices_in r (Some a)) k) (slice_get (listed (layout_in r l)) k) ((choices_laid (contents t) a l r h).each k) ∣₁)
     where
       stand : (a : TableAtom) → slice_get (table_of (contents t)).atoms i ≡ Some a → (c : Option TableChoice) (p : Option ℕ) → Paired (ChoiceLaid (contents t) (seen_in r a.reads a.awaits) (size a.controls)) c p → ChoiceFound (contents t) (size a.controls) c p
       stand a is (Some c) (Some place) laid = choice_stands (seen_in r a.reads a.awaits) (size a.controls) (contents t) place c laid.end (atom_short (contents t) i a is) laid.read
@@ -176,19 +177,8 @@ module _ (bs : List ℕ) (count : ℕ) (o : Option TableChoice) (found : ∥ Cho
 
 -- ---- the number for a name
 
-rank_same : (f g : ℕ → Bool) → ((n : ℕ) → f n ≡ g n) → (n : ℕ) → count f n ≡ count g n
-unfolding count
-rank_same f g e zero = refl
-rank_same f g e (suc n) = ap (λ i. i + cond (f n) 1 0) (rank_same f g e n) ∙ ap (λ b. count g n + cond b 1 0) (e n)
-
-count_within : (p : ℕ → Bool) (n : ℕ) → count p n ≤ n
-unfolding count
-count_within p zero = zero-le
-count_within p (suc n) = go (p n) (count_within p n)
-  where
-    go : (b : Bool) → count p n ≤ n → count p n + cond b 1 0 ≤ suc n
-    go true h = omega arith
-    go false h = omega arith
+count_same : (f g : ℕ → Bool) → ((n : ℕ) → f n ≡ g n) → (n : ℕ) → count f n ≡ count g n
+count_same f g e n = ap (λ p. count p n) (fun_ext e)
 
 module _ (t : Table) (r : Round) (i k' n : ℕ) (controls : NameSet) (same : (n : ℕ) → has controls n ≡ (outline_of t).controls i n) where
   module _ (here : has controls n ≡ true) where
@@ -198,14 +188,14 @@ module _ (t : Table) (r : Round) (i k' n : ℕ) (controls : NameSet) (same : (n 
         laws.names n (laws.controls_known i n (sym (same n) ∙ here)).1
 
     pub few_before : count (has controls) n < 32
-    few_before = let l = count_within (has controls) n in omega (arith, name_low)
+    few_before = let l = count_few (has controls) n in omega (arith, name_low)
 
     rank_low : count (has controls) n < controlled (atom_of t i)
     rank_low = go (atom_of t i) same
       where
         go : (o : Option TableAtom) → ((n : ℕ) → has controls n ≡ in_set (λ x. x.controls) o n) → count (has controls) n < controlled o
         go None e = absurd (false≢true (sym (e n) ∙ here))
-        go (Some a) e = omega (arith, rank_within (bit a.controls) n 32 (sym (e n) ∙ here) name_low, rank_same (has controls) (bit a.controls) e n)
+        go (Some a) e = omega (arith, count_below (bit a.controls) n 32 (sym (e n) ∙ here) name_low, count_same (has controls) (bit a.controls) e n)
 
     number_at : number_form (slice_get (numbers_of (choice_of t r i k')) (count (has controls) n)) ≡ number_bytes_of t r i k' n
     number_at = go (atom_of t i) same
@@ -213,7 +203,7 @@ module _ (t : Table) (r : Round) (i k' n : ℕ) (controls : NameSet) (same : (n 
         go : (o : Option TableAtom) → ((n : ℕ) → has controls n ≡ in_set (λ x. x.controls) o n) → number_form (slice_get (numbers_of (choice_of t r i k')) (count (has controls) n)) ≡ number_form (number_for o n (choice_of t r i k'))
         go None e = absurd (false≢true (sym (e n) ∙ here))
         go (Some a) e =
-            ap (λ m. number_form (slice_get (numbers_of (choice_of t r i k')) m)) (rank_same (has controls) (bit a.controls) e n)
+            ap (λ m. number_form (slice_get (numbers_of (choice_of t r i k')) m)) (count_same (has controls) (bit a.controls) e n)
             ∙ ap (λ b. number_form (number_if b (count (bit a.controls) n) (choice_of t r i k'))) (sym (sym (e n) ∙ here))
 
     pub number_none : ∥ ChoiceFound (contents t) (controlled (atom_of t i)) (choice_of t r i k') None ∥₁ → [] ≡ number_bytes_of t r i k' n

@@ -8,35 +8,35 @@ use Rattle.model.specs.States.{value}
 use Rattle.model.specs.declared.Round.{Round}
 use Rattle.model.specs.declared.Round.TheVariants.{Initial, Update}
 use Rattle.expression.specs.Evaluation.{evaluated_number, evaluated_truth, NumberEvaluated, TruthEvaluated}
-use Rattle.language.specs.ExpressionLaws.{none_some, nth_inside}
+use Rattle.language.specs.laws.Expressions.{none_some, nth_inside}
 use Rattle.language.specs.Expressions.{Number, Seen, read_number, read_truth}
-use Rattle.language.specs.TableLaws.{table_sound}
-use Rattle.language.specs.Tables.{TableVariable, TableAtom, TableChoice, bit, size, seen_in, NumberFits, ChoiceRight, ChoicesRight, AtomRight, table_of, choices_of, choice_opens, numbers_of, value_of, given, atom_gives}
+use Rattle.language.specs.laws.Tables.{table_sound}
+use Rattle.language.specs.Tables.{TableVariable, TableAtom, TableChoice, bit, size, seen_in, NumberFits, ChoiceRight, ChoicesRight, AtomRight, table_of, choices_in, choice_opens, numbers_of, value_of, given, atom_gives}
 use Rattle.table.specs.Kept.{contents, atom_of, choice_of, guard_form, number_if, number_for, number_form, number_bytes_of}
 use Rattle.table.specs.declared.kept.Table.{Table}
 
 each : {X : Type 0} (P : X → Type 0) (xs : List X) (i : ℕ) (x : X) → All P xs → slice_get xs i ≡ Some x → P x
 each P xs i x all e = subst P (get_or_from_slice_get xs i x x e) (All-get_or P xs i x (nth_inside xs i x e) all)
 
-choices_right : (r : Round) {vs : List TableVariable} (a : TableAtom) → AtomRight vs a → ChoicesRight (seen_in r a.reads a.awaits) (size a.controls) (choices_of r (Some a))
+choices_right : (r : Round) {vs : List TableVariable} (a : TableAtom) → AtomRight vs a → ChoicesRight r (seen_in r a.reads a.awaits) (size a.controls) (choices_in r (Some a))
 choices_right Initial a h = h.initial_right
 choices_right Update a h = h.update_right
 
-none_there : {P : Type 0} (r : Round) (k : ℕ) (c : TableChoice) → slice_get (choices_of r None) k ≡ Some c → P
+none_there : {P : Type 0} (r : Round) (k : ℕ) (c : TableChoice) → slice_get (choices_in r None) k ≡ Some c → P
 none_there Initial k c e = none_some c e
 none_there Update k c e = none_some c e
 
--- a choice of an opened table is right, by what its atom sees
+-- a choice of an opens_as table is right, by what its atom sees
 choice_right : (t : Table) (r : Round) (i k : ℕ) (c : TableChoice) → choice_of t r i k ≡ Some c → (s : Seen) × (count : ℕ) × ChoiceRight s count c
 choice_right t r i k c e = go (atom_of t i) refl e
   where
-    go : (o : Option TableAtom) → atom_of t i ≡ o → slice_get (choices_of r o) k ≡ Some c → (s : Seen) × (count : ℕ) × ChoiceRight s count c
+    go : (o : Option TableAtom) → atom_of t i ≡ o → slice_get (choices_in r o) k ≡ Some c → (s : Seen) × (count : ℕ) × ChoiceRight s count c
     go None is e = none_there r k c e
     go (Some a) is e =
         let right = (table_sound (contents t)).right in
         let atom = each (AtomRight (table_of (contents t)).variables) (table_of (contents t)).atoms i a right.atoms_right is in
         let s = seen_in r a.reads a.awaits in let count = size a.controls in
-        (s, count, each (ChoiceRight s count) (choices_of r (Some a)) k c (choices_right r a atom).each e)
+        (s, count, each (ChoiceRight s count) (choices_in r (Some a)) k c (choices_right r a atom).each e)
 
 nothing_holds : (old new : List ℕ) → evaluated_truth [] old new ≡ false
 unfolding read_truth
@@ -54,11 +54,11 @@ opens t r i k bs old new answer form is means = go (choice_of t r i k) refl form
     go (Some c) there form = let right = choice_right t r i k c there in means.written right.0 c.guard right.2.guard_fits.right form
 
 -- what an atom gives is the value of its number for the name
-gives_value : (r : Round) (o : Option TableAtom) (k n : ℕ) (old new : List ℕ) → atom_gives r o k n (value old) (value new) ≡ value_of (number_for o n (slice_get (choices_of r o) k)) (value old) (value new)
+gives_value : (r : Round) (o : Option TableAtom) (k n : ℕ) (old new : List ℕ) → atom_gives r o k n (value old) (value new) ≡ value_of (number_for o n (slice_get (choices_in r o) k)) (value old) (value new)
 gives_value r None k n old new = refl
 gives_value r (Some a) k n old new = go (bit a.controls n)
   where
-    go : (b : Bool) → given b (count (bit a.controls) n) (slice_get (choices_of r (Some a)) k) (value old) (value new) ≡ value_of (number_if b (count (bit a.controls) n) (slice_get (choices_of r (Some a)) k)) (value old) (value new)
+    go : (b : Bool) → given b (count (bit a.controls) n) (slice_get (choices_in r (Some a)) k) (value old) (value new) ≡ value_of (number_if b (count (bit a.controls) n) (slice_get (choices_in r (Some a)) k)) (value old) (value new)
     go true = refl
     go false = refl
 

@@ -3,8 +3,8 @@ use Rattle.std.proofs.Common.{◌≡◌, ℕ, zero, suc, ◌+◌, ◌-◌, ◌<�
 use Rattle.std.proofs.lemmas.Bool.{eq-eqb, ne_eqb, cond-true, cond-false, cases_eq}
 use Rattle.std.specs.Option.{option_map}
 use Rattle.language.proofs.Steps.{variables_none as variables_end, variables_more as variables_step}
-use Rattle.language.specs.ExpressionLaws.{none_some}
-use Rattle.language.specs.TableReading.{variable_read}
+use Rattle.language.specs.laws.Expressions.{none_some}
+use Rattle.language.specs.laws.Reading.{variable_read}
 use Rattle.language.specs.Tables.{TableVariable, variable_at, VariableRight, fine, and_then, read_variable, read_variables}
 use Rattle.model.specs.declared.Fault.{Fault}
 use Rattle.table.specs.Reads.{end_told, Fine, Reads}

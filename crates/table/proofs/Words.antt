@@ -1,7 +1,7 @@
 -- Sets of names that stand for numbers of 32 bits.
 use Rattle.std.proofs.Common.{◌≡◌, ℕ, ◌^◌, ◌<◌, ◌≤◌, ◌⊎◌, ◌&&◌, ltb, inl, inr, sym, ap, ◌∙◌}
 use Rattle.std.proofs.lemmas.Bool.{lt-ltb, le-ltb, cases_lt}
-use Rattle.language.specs.TableLaws.{bit_high}
+use Rattle.language.specs.laws.Tables.{bit_high}
 use Rattle.language.specs.Tables.{bit}
 
 -- no bit of such a number past the 32 names is set

@@ -1,4 +1,4 @@
--- The bytes that an opened table keeps.
+-- The bytes that an opens_as table keeps.
 use Rattle.std.specs.Prelude.{◌≡◌, ℕ, ◌<◌, List, length, replicate, Ok, Err, Result}
 use Rattle.model.specs.Rows.{listed}
 use Rattle.model.specs.declared.row.Row.{Row}

@@ -1,4 +1,4 @@
--- What an opened table holds, part by part.
+-- What an opens_as table holds, part by part.
 use Rattle.model.specs.Tests.{count}
 use Rattle.std.specs.Prelude.{ℕ, Bool, true, false, List, [], Some, None, Option}
 use Rattle.std.specs.List.{slice_get}
@@ -6,14 +6,14 @@ use Rattle.std.specs.Option.{option_map}
 use Rattle.model.specs.Meanings.{OutlineFacts, Meaning}
 use Rattle.model.specs.declared.Round.{Round}
 use Rattle.language.specs.Expressions.{Number, number_bytes, truth_bytes}
-use Rattle.language.specs.TableLaws.{table_meaning}
-use Rattle.language.specs.Tables.{TableAtom, TableChoice, bit, variable_at, table_of, table_outline, choices_of, numbers_of}
+use Rattle.language.specs.Meanings.{table_meaning}
+use Rattle.language.specs.Tables.{TableAtom, TableChoice, bit, variable_at, table_of, table_outline, choices_in, numbers_of}
 use Rattle.table.specs.Variables.{kept}
 use Rattle.table.specs.declared.variables.Variable.{Variable}
 use Rattle.table.specs.Contents.{held}
 use Rattle.table.specs.declared.kept.Table.{Table}
 
--- the byte string that was opened, or one that stands for it where it was too long
+-- the byte string that was opens_as, or one that stands for it where it was too long
 abbrev pub contents : Table → List ℕ
 contents t = held t.bytes
 
@@ -31,7 +31,7 @@ abbrev pub atom_of : Table → ℕ → Option TableAtom
 atom_of t a = slice_get (table_of (contents t)).atoms a
 
 abbrev pub choice_of : Table → Round → ℕ → ℕ → Option TableChoice
-choice_of t r a k = slice_get (choices_of r (atom_of t a)) k
+choice_of t r a k = slice_get (choices_in r (atom_of t a)) k
 
 -- the written form of a choice's guard, nothing where there is no choice
 abbrev pub guard_form : Option TableChoice → List ℕ
@@ -52,6 +52,6 @@ abbrev pub number_form : Option Number → List ℕ
 number_form None = []
 number_form (Some e) = number_bytes e
 
--- the written form of what the choice of an opened table gives to the name n, nothing where it gives it nothing
+-- the written form of what the choice of an opens_as table gives to the name n, nothing where it gives it nothing
 abbrev pub number_bytes_of : Table → Round → ℕ → ℕ → ℕ → List ℕ
 number_bytes_of t r a k n = number_form (number_for (atom_of t a) n (choice_of t r a k))

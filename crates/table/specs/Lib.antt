@@ -8,7 +8,6 @@ pub mod Promises
 pub mod Read
 pub mod Reads
 pub mod Rows
-pub mod Rules
 pub mod Sets
 pub mod Stands
 pub mod Variables

@@ -1,6 +1,6 @@
 -- What reading a byte string answers.
 use Rattle.std.specs.Prelude.{◌≡◌, ℕ, List, Some, Ok, Err, Result}
-use Rattle.language.specs.Tables.{TableSyntax, opened, table_opened, table_fault}
+use Rattle.language.specs.Tables.{TableSyntax, opens_as, opening_of, table_fault}
 use Rattle.model.specs.declared.Fault.{Fault}
 use Rattle.table.specs.Laid.{Laid}
 use Rattle.table.specs.declared.parts.Layout.{Layout}
@@ -8,7 +8,7 @@ use Rattle.table.specs.declared.parts.Layout.{Layout}
 -- the bytes are a table, and this is its layout
 pub record Opens (bs : List ℕ) (l : Layout) : Type 0 where
   pub table : TableSyntax
-  pub is : table_opened bs ≡ opened table
+  pub is : opening_of bs ≡ opens_as table
   pub laid : Laid bs table l
 
 -- A layout is answered where the bytes are a table, and is that table's; else their first fault, by its number and place.

@@ -1,7 +1,8 @@
 -- What is read from where a reader stands, and where it stands then.
 use Rattle.std.specs.Prelude.{◌≡◌, ℕ, ◌+◌, ◌<◌, cond, List, length, Some, Ok, Err, Result, ◌==◌}
-use Rattle.model.specs.Faults.{own}
+use Rattle.language.specs.Rules.{rule_fault}
 use Rattle.model.specs.declared.Fault.{Fault}
+use Rattle.language.specs.declared.rules.Rule.TheVariants.{TooManyBytes, BytesMissing, BytesLeftOver}
 use Rattle.language.specs.Tables.{Step, fine, wrong, short, byte_item, item, part_at, word_at}
 use Rattle.table.specs.declared.reader.Reader.{Reader}
 
@@ -9,14 +10,14 @@ use Rattle.table.specs.declared.reader.Reader.{Reader}
 -- missed where the bytes end.
 abbrev pub told : {X : Type 0} → ℕ → Step X → Result (X × ℕ) Fault
 told all (fine x end) = Ok (x, end)
-told all (wrong number place end) = Err (own number place)
-told all short = Err (own 2 all)
+told all (wrong rule place end) = Err (rule_fault rule place)
+told all short = Err (rule_fault BytesMissing all)
 
 -- only where the part ends
 abbrev pub end_told : {X : Type 0} → ℕ → Step X → Result ℕ Fault
 end_told all (fine x end) = Ok end
-end_told all (wrong number place end) = Err (own number place)
-end_told all short = Err (own 2 all)
+end_told all (wrong rule place end) = Err (rule_fault rule place)
+end_told all short = Err (rule_fault BytesMissing all)
 
 -- what was made of a part, with the place where its reader stands then
 abbrev pub placed : {R : Type 0} → ℕ → Result R Fault → Result (R × ℕ) Fault
@@ -54,19 +55,19 @@ pub record Reads {X R : Type 0} (P : X → R → Type 0) (read : List ℕ → �
 
 -- a byte, a word or so many bytes, whatever they are
 abbrev pub any_byte : List ℕ → ℕ → Step ℕ
-any_byte bs k = byte_item 2 Some bs k
+any_byte bs k = byte_item BytesMissing Some bs k
 
 abbrev pub any_word : List ℕ → ℕ → Step ℕ
-any_word bs k = item 2 k (k + 4) Some (word_at bs k)
+any_word bs k = item BytesMissing k (k + 4) Some (word_at bs k)
 
 abbrev pub any_part : ℕ → List ℕ → ℕ → Step (List ℕ)
-any_part size bs k = item 2 k (k + size) Some (part_at bs k size)
+any_part size bs k = item BytesMissing k (k + size) Some (part_at bs k size)
 
 -- a reader at the front of the bytes, if there are not too many
 abbrev pub Begins : List ℕ → Result Reader Fault → Type 0
 Begins bs (Ok reader) = (reader.bytes.now ≡ bs) × (reader.place ≡ 0)
-Begins bs (Err fault) = (4096 < length bs) × (fault ≡ own 1 0)
+Begins bs (Err fault) = (4096 < length bs) × (fault ≡ rule_fault TooManyBytes 0)
 
 -- what is left over is a fault, at its first byte
 abbrev pub Ended : Reader → Result (Unit {0}) Fault
-Ended r = cond (r.place == length r.bytes.now) (Ok tt) (Err (own 6 r.place))
+Ended r = cond (r.place == length r.bytes.now) (Ok tt) (Err (rule_fault BytesLeftOver r.place))

@@ -10,7 +10,6 @@ ghost use Rattle.std.specs.Prelude.{◌≡◌, ℕ, ◌≤◌, List, []};
 
 use crate::parts::AtomLayout;
 use crate::reader::Reader;
-use crate::rules::Rule;
 use crate::sets::{are_known, are_own, count};
 use crate::variables::Variables;
 use expression::Seen;
@@ -48,8 +47,8 @@ impl Reader<'_> {
         let controls = self.set(|names| are_own(variables, names))?;
         let reads = self.set(|names| are_known(variables, names))?;
         let awaits = self.set(|names| are_known(variables, names))?;
-        let initials = self.byte_between(Rule::Atom, 1, 8)?;
-        let updates = self.byte_between(Rule::Atom, 1, 8)?;
+        let initials = self.choice_count(Round::Initial)?;
+        let updates = self.choice_count(Round::Update)?;
         let size = count(&controls);
         let first = seen_in(Round::Initial, reads, awaits);
         let initial = self.choices(&first, size, initials)?;

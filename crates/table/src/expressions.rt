@@ -8,8 +8,8 @@ ghost use Rattle.std.specs.Fn.{FnReturnsAt};
 ghost use Rattle.std.specs.Prelude.{◌≡◌, ℕ, List, Option};
 
 use crate::reader::Reader;
-use crate::rules::Rule;
 use expression::{Seen, check_number, check_truth};
+use language::Rule;
 use model::Fault;
 
 impl Reader<'_> {
@@ -19,10 +19,10 @@ impl Reader<'_> {
         requires inside { FaultsInside (FnReturnsAt F.Fn check) }
         ensures { (fault : List ℕ → Option ℕ) → Checks (FnReturnsAt F.Fn check) fault → Passes (judged_item fault) self.old self.new result }
     {
-        let size = self.byte_between(Rule::Expression, 1, 64)?;
+        let size = self.byte_between(Rule::WrongExpression, 1, 64)?;
         let start = usize::from(self.place());
         let part = self.part(size)?;
-        check(part).map_err(|fault| Rule::Expression.broken_at(start + fault))
+        check(part).map_err(|fault| Rule::WrongExpression.broken_at(start + fault))
     }
 
     pub fn truth(&mut self, seen: &Seen) -> Result<(), Fault>

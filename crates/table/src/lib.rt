@@ -9,7 +9,6 @@ mod kept;
 mod parts;
 mod reader;
 mod reading;
-mod rules;
 mod sets;
 mod variables;
 

@@ -6,7 +6,7 @@ ghost use Rattle.table.specs.Reads.{Reads};
 
 use crate::parts::Layout;
 use crate::reader::Reader;
-use crate::rules::Rule;
+use language::Rule;
 use model::Fault;
 
 impl Reader<'_> {
@@ -14,9 +14,9 @@ impl Reader<'_> {
     fn table(&mut self) -> Result<Layout, Fault>
         ensures { Reads (Laid self.old.bytes.now) read_table self.old self.new result }
     {
-        let width = self.byte_between(Rule::Variable, 0, 32)?;
+        let width = self.byte_between(Rule::WrongVariable, 0, 32)?;
         let variables = self.variables(width)?;
-        let count = self.byte_between(Rule::Atom, 0, 16)?;
+        let count = self.byte_between(Rule::WrongAtom, 0, 16)?;
         let atoms = self.atoms(&variables, count)?;
         Ok(Layout { variables, atoms })
     }

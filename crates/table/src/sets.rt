@@ -10,8 +10,8 @@ ghost use Rattle.std.specs.Fn.{FnReturnsAt};
 ghost use Rattle.std.specs.Prelude.{◌≡◌, ℕ, Bool, List};
 
 use crate::reader::Reader;
-use crate::rules::Rule;
 use crate::variables::{Variable, Variables};
+use language::Rule;
 use model::{Fault, Kind, Names, all_below, count_below};
 
 // The names in the set that the number stands for: name n where bit n is 1.
@@ -68,7 +68,7 @@ impl Reader<'_> {
         if test(&names) {
             Ok(names)
         } else {
-            Err(Rule::Atom.broken_at(usize::from(place)))
+            Err(Rule::WrongAtom.broken_at(usize::from(place)))
         }
     }
 }

@@ -15,7 +15,7 @@ use Rattle.composition.proofs.Joining.{joined_projects}
 use Rattle.composition.proofs.Renaming.{old_name, new_name, renamed_corresponds}
 use Rattle.composition.proofs.Views.{projected_at, exchanged_at}
 use Rattle.language.specs.Expressions.{Number, constant, old_value, new_value, sum, difference, Truth, equal, less, negation, conjunction, disjunction, always, truth_levels, truth_value, Seen, number_sees, truth_sees, seen_swapped, swapped, truth_renamed}
-use Rattle.language.specs.ExpressionLaws.{truth_by_sight}
+use Rattle.language.specs.laws.Expressions.{truth_by_sight}
 use Rattle.language.proofs.Renaming.{renaming_exchanges_names}
 use Rattle.model.specs.Meanings.{Meaning}
 use Rattle.model.specs.States.{value, nothing, Reachable}

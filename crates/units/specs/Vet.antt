@@ -1,6 +1,6 @@
 -- The boot entry: a table, a claim and states, to one number.
 use Rattle.std.specs.Prelude.{ℕ, List}
-use Rattle.language.specs.TableLaws.{table_meaning}
+use Rattle.language.specs.Meanings.{table_meaning}
 use Rattle.units.specs.Refusals.{refusal_fault}
 use Rattle.units.specs.Units.{Answer, done, refused, seal, claim, certify}
 

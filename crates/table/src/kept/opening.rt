@@ -1,8 +1,8 @@
 //! Opening a table.
-ghost use Rattle.language.specs.Tables.{table_opened};
+ghost use Rattle.language.specs.Tables.{opening_of, table_acts, table_of, table_outline};
 ghost use Rattle.std.specs.Prelude.{◌≡◌, ◌≤◌, length};
 ghost use Rattle.table.specs.Contents.{Copied};
-ghost use Rattle.table.specs.Kept.{contents};
+ghost use Rattle.table.specs.Kept.{contents, meaning_of};
 ghost use Rattle.table.specs.Promises.{OpensAsWritten};
 
 use super::Table;
@@ -19,7 +19,9 @@ fn copied(bytes: &[u8]) -> Result<Row<u8, 4096>, usize>
 impl Table {
     /// Opens any bytes. A fault still makes a table, which tells it and has no variables and no atoms.
     pub fn open(bytes: &[u8]) -> Table
-        ensures opened { table_opened (contents result) ≡ table_opened bytes.now }
+        ensures outline { (meaning_of result).outline ≡ table_outline bytes.now }
+        ensures acts { (meaning_of result).acts ≡ table_acts (table_of bytes.now) }
+        ensures opening { opening_of (contents result) ≡ opening_of bytes.now }
         ensures kept { length bytes.now ≤ 4096 → contents result ≡ bytes.now }
         ensures promised { OpensAsWritten bytes.now result }
     {

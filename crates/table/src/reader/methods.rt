@@ -1,13 +1,12 @@
 //! The bytes of a table one by one.
 ghost use Rattle.language.specs.Tables.{between, byte_item, kind_of};
 ghost use Rattle.table.specs.Reads.{Begins, Tells, Ended, any_byte, any_part, any_word};
-ghost use Rattle.table.specs.Rules.{number_of};
-ghost use Rattle.model.specs.Faults.{own};
+ghost use Rattle.language.specs.Rules.{rule_fault};
 ghost use Rattle.std.specs.Prelude.{◌≡◌, length};
 ghost use Rattle.std.specs.Result.{result_map_both};
 
 use super::Reader;
-use crate::rules::Rule;
+use language::Rule;
 use model::{Fault, Kind};
 
 // The most bytes that a table may have.
@@ -21,15 +20,15 @@ impl<'a> Reader<'a> {
         if bytes.len() <= LIMIT {
             Ok(Reader { bytes, place: 0 })
         } else {
-            Err(Rule::TooLong.broken_at(0))
+            Err(Rule::TooManyBytes.broken_at(0))
         }
     }
 
     // Bytes that are missing are missed where the bytes end.
     fn missing(&self) -> Fault
-        ensures { result ≡ own 2 (length self.now.bytes.now) }
+        ensures { result ≡ rule_fault Rule.BytesMissing (length self.now.bytes.now) }
     {
-        Rule::Missing.broken_at(self.bytes.len())
+        Rule::BytesMissing.broken_at(self.bytes.len())
     }
 
     fn byte(&mut self) -> Result<u8, Fault>
@@ -42,7 +41,7 @@ impl<'a> Reader<'a> {
 
     /// A byte that must lie in a range.
     pub fn byte_between(&mut self, rule: Rule, low: u8, high: u8) -> Result<u8, Fault>
-        ensures { Tells (byte_item (number_of rule) (between low high)) self.old self.new result }
+        ensures { Tells (byte_item rule (between low high)) self.old self.new result }
     {
         let place = self.place;
         let byte = self.byte()?;
@@ -55,10 +54,10 @@ impl<'a> Reader<'a> {
 
     /// A variable's kind.
     pub fn kind(&mut self) -> Result<Kind, Fault>
-        ensures { Tells (byte_item 3 kind_of) self.old self.new result }
+        ensures { Tells (byte_item Rule.WrongVariable kind_of) self.old self.new result }
     {
         let place = self.place;
-        Kind::try_from(self.byte()?).map_err(|_| Rule::Variable.broken_at(place))
+        Kind::try_from(self.byte()?).map_err(|_| Rule::WrongVariable.broken_at(place))
     }
 
     /// The number that four bytes make, the highest first.
@@ -96,7 +95,7 @@ impl<'a> Reader<'a> {
         if self.place == self.bytes.len() {
             Ok(())
         } else {
-            Err(Rule::LeftOver.broken_at(self.place))
+            Err(Rule::BytesLeftOver.broken_at(self.place))
         }
     }
 }

@@ -6,7 +6,7 @@ ghost use Rattle.std.specs.Prelude.{◌≡◌};
 
 use super::{Variable, Variables};
 use crate::reader::Reader;
-use crate::rules::Rule;
+use language::Rule;
 use model::Fault;
 
 impl Variables {
@@ -24,9 +24,9 @@ impl Reader<'_> {
     fn variable(&mut self, lowest: u8) -> Result<(u8, Variable), Fault>
         ensures { Reads IsVariable (read_variable lowest) self.old self.new result }
     {
-        let name = self.byte_between(Rule::Variable, lowest, 31)?;
+        let name = self.byte_between(Rule::WrongVariable, lowest, 31)?;
         let kind = self.kind()?;
-        let top = self.byte_between(Rule::Variable, 1, 255)?;
+        let top = self.byte_between(Rule::WrongVariable, 1, 255)?;
         Ok((name, Variable { kind, top }))
     }
 

@@ -1,4 +1,4 @@
-use Rattle.std.proofs.Common.{◌≡◌, ◌^◌, ◌<◌, ◌∙◌, rules, arith}
+use Rattle.std.proofs.Common.{◌^◌, ◌<◌, ◌∙◌, rules, arith}
 use Rattle.language.specs.Tables.{bit}
 use Rattle.table.proofs.Words.{all_names}
 use Rattle.table.proofs.sets.names_of.Goals as goal

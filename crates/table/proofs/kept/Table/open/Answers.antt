@@ -1,3 +1,5 @@
+use Rattle.std.proofs.Common.{ap}
+use Rattle.language.specs.Tables.{fault_of, syntax_of, syntax_outline, table_acts}
 use Rattle.table.proofs.Held.{held_opened, held_found}
 use Rattle.table.proofs.Promised.{opens_as_written}
 use Rattle.table.proofs.kept.Table.open.Goals as goal
@@ -5,8 +7,14 @@ use Rattle.table.proofs.kept.Table.open.Goals as goal
 pub invariant_of-result-clause-read : goal.invariant_of-result-clause-read
 invariant_of-result-clause-read c = ∣ held_found c.args.bytes.now c.copied.result c.copied.ensures c.read.result c.read.ensures ∣₁
 
-pub returns-clause-opened : goal.returns-clause-opened
-returns-clause-opened c = held_opened c.args.bytes.now c.copied.result c.copied.ensures
+pub returns-clause-outline : goal.returns-clause-outline
+returns-clause-outline c = ap (λ o. syntax_outline (fault_of o) (syntax_of o)) (held_opened c.args.bytes.now c.copied.result c.copied.ensures)
+
+pub returns-clause-acts : goal.returns-clause-acts
+returns-clause-acts c = ap (λ o. table_acts (syntax_of o)) (held_opened c.args.bytes.now c.copied.result c.copied.ensures)
+
+pub returns-clause-opening : goal.returns-clause-opening
+returns-clause-opening c = held_opened c.args.bytes.now c.copied.result c.copied.ensures
 
 pub returns-clause-promised : goal.returns-clause-promised
 returns-clause-promised c = opens_as_written c.args.bytes.now _ (held_opened c.args.bytes.now c.copied.result c.copied.ensures)

@@ -7,7 +7,7 @@ use Rattle.std.proofs.lemmas.List.{length-append}
 use Rattle.std.proofs.lemmas.Bool.{and_from, and_parts, eqb-true, ltb-true, lt-ltb, leb-true, le-leb}
 use Rattle.std.specs.List.{slice_get}
 use Rattle.model.specs.Meanings.{Valuation, Bytes}
-use Rattle.language.specs.Expressions.{Number, constant, old_value, new_value, sum, difference, Truth, equal, less, negation, conjunction, disjunction, always, number_bytes, truth_bytes, number_levels, truth_levels, number_value, truth_value, eqZ, Seen, number_sees, truth_sees, number_right, truth_right, as_byte, byte_at, Reading, good, bad, after, judged, good_byte, read_byte, one, two, NumberOperation, constant_follows, old_name_follows, new_name_follows, plus, minus, number_operator, TruthOperation, equals, less_than, not_follows, and_follows, or_follows, is_true, truth_operator, as_constant, as_name, number_operands, read_number, truth_operands, read_truth}
+use Rattle.language.specs.Expressions.{Agree, Number, constant, old_value, new_value, sum, difference, Truth, equal, less, negation, conjunction, disjunction, always, number_bytes, truth_bytes, number_levels, truth_levels, number_value, truth_value, eqZ, Seen, number_sees, truth_sees, number_right, truth_right, as_byte, byte_at, Reading, good, bad, after, judged, good_byte, read_byte, one, two, NumberOperation, constant_follows, old_name_follows, new_name_follows, plus, minus, number_operator, TruthOperation, equals, less_than, not_follows, and_follows, or_follows, is_true, truth_operator, as_constant, as_name, number_operands, read_number, truth_operands, read_truth}
 
 -- these bytes stand at place k
 abbrev pub Stands : List ℕ → ℕ → List ℕ → Type 0
@@ -305,11 +305,6 @@ number_low s e old new h p q short =
 pub number_high : (s : Seen) (e : Number) (old new : Valuation) → number_sees s e ≡ true → Bytes old → Bytes new → length (number_bytes e) ≤ 64 → number_value e old new ≤ℤ pos 5355
 number_high s e old new h p q short =
     let b = number_bounded s e old new h p q in omega (arith, ints, b.high, b.low, number_length e)
-
--- two pairs of old and new values agree on the names seen
-pub record Agree (s : Seen) (old new old' new' : Valuation) : Type 0 where
-  pub old_same : (n : ℕ) → s.old n ≡ true → old n ≡ old' n
-  pub new_same : (n : ℕ) → s.new n ≡ true → new n ≡ new' n
 
 module _ (s : Seen) (old new old' new' : Valuation) (alike : Agree s old new old' new') where
   pub number_by_sight : (e : Number) → number_sees s e ≡ true → number_value e old new ≡ number_value e old' new'

@@ -7,101 +7,104 @@ use Rattle.std.proofs.lemmas.Option.{slice_get_past}
 use Rattle.std.proofs.lemmas.Bool.{and_parts, eqb-true, both_ways, false≢true, cases_lt}
 use Rattle.std.specs.List.{AllByRecursion, slice_get}
 use Rattle.model.proofs.Bounded.{every_decides}
-use Rattle.model.specs.Meanings.{Valuation, Bytes, OutlineLaws, ChoiceLaws, Alike, Meaning, most_choices}
+use Rattle.model.specs.Meanings.{Valuation, Bytes, OutlineLaws, ChoiceLaws, Alike, most_choices}
 use Rattle.model.specs.Tests.{every, some, implies, count}
 use Rattle.model.specs.declared.Fault.{Fault}
 use Rattle.model.specs.declared.Kind.TheVariants.{External}
 use Rattle.model.specs.declared.Round.{Round}
 use Rattle.model.specs.declared.Round.TheVariants.{Initial, Update}
-use Rattle.language.specs.ExpressionLaws.{none_some, nth_inside, Agree, number_low, number_high, number_by_sight, truth_by_sight}
-use Rattle.language.specs.Expressions.{Number, number_levels, number_value, Seen, number_sees, truth_levels, truth_sees, Reading, good, bad, byte_at, whole_number, whole_truth}
-use Rattle.language.specs.TableReading.{table_read}
-use Rattle.language.specs.Tables.{TableVariable, TableChoice, TableAtom, TableSyntax, no_table, bit, size, own_kind, variable_at, is_own, names_variables, names_own, seen_in, VariablesRight, NumberFits, ChoiceRight, ChoicesRight, AtomRight, TableRight, Step, fine, wrong, short, and_then, judgement, item, byte_item, if_passes, between, kind_of, word_at, set_item, part_at, expression_judged, expression_of, expression_body, expression_item, many, read_variable, read_variables, read_choice, read_atom, read_table, Opened, opened, refused, at_end, table_opened, fault_of, syntax_of, table_fault, table_of, variable_kind, variable_top, in_set, outline_of, choices_of, choice_opens, numbers_of, value_of, given, atom_gives, table_acts, table_outline}
+use Rattle.language.specs.laws.Expressions.{none_some, nth_inside, number_low, number_high, number_by_sight, truth_by_sight}
+use Rattle.language.specs.Expressions.{Agree, Number, number_levels, number_value, Seen, number_sees, truth_levels, truth_sees, Reading, good, bad, byte_at, whole_number, whole_truth}
+use Rattle.language.specs.laws.Reading.{table_read}
+use Rattle.language.specs.Rules.{judges_items, rule_fault, rule_number}
+use Rattle.language.specs.declared.rules.Rule.{Rule}
+use Rattle.language.specs.declared.rules.Rule.TheVariants.{TooManyBytes, BytesMissing, WrongVariable, WrongAtom, WrongExpression, BytesLeftOver}
+use Rattle.language.specs.Tables.{TableVariable, TableChoice, TableAtom, TableSyntax, no_table, bit, size, own_kind, variable_at, is_own, names_variables, names_own, seen_in, VariablesRight, NumberFits, ChoiceRight, ChoicesRight, AtomRight, TableRight, Step, fine, wrong, short, and_then, judgement, item, byte_item, if_passes, between, kind_of, word_at, set_item, part_at, expression_judged, expression_of, expression_body, expression_item, many, read_variable, read_variables, read_choice, read_atom, read_table, Opening, opens_as, breaks, at_end, opening_of, fault_of, syntax_of, variable_kind, variable_top, in_set, syntax_outline, choices_in, choice_opens, numbers_of, value_of, given, atom_gives, table_acts}
 
--- ---- faults are numbered 1 to 6
+-- ---- what breaks while reading are rules of items
 
-abbrev pub Numbered : {X : Type 0} → Step X → Type 0
-Numbered (fine x end) = Unit {0}
-Numbered (wrong number place end) = (3 ≤ number) × (number ≤ 5)
-Numbered short = Unit {0}
+abbrev pub OfItems : {X : Type 0} → Step X → Type 0
+OfItems (fine x end) = Unit {0}
+OfItems (wrong rule place end) = judges_items rule ≡ true
+OfItems short = Unit {0}
 
-numbered_then : {X Y : Type 0} (r : Step X) (next : X → ℕ → Step Y) → Numbered r → ((x : X) (k : ℕ) → Numbered (next x k)) → Numbered (and_then r next)
-numbered_then (fine x end) next h g = g x end
-numbered_then (wrong number place end) next h g = h
-numbered_then short next h g = tt
+of_items_then : {X Y : Type 0} (r : Step X) (next : X → ℕ → Step Y) → OfItems r → ((x : X) (k : ℕ) → OfItems (next x k)) → OfItems (and_then r next)
+of_items_then (fine x end) next h g = g x end
+of_items_then (wrong rule place end) next h g = h
+of_items_then short next h g = tt
 
-numbered_item : {A X : Type 0} (number place end : ℕ) (judge : A → Option X) (found : Option A) → 3 ≤ number → number ≤ 5 → Numbered (item number place end judge found)
-numbered_item number place end judge None low high = tt
-numbered_item {A} {X} number place end judge (Some a) low high = go (judge a)
+of_items_item : {A X : Type 0} (rule : Rule) (place end : ℕ) (judge : A → Option X) (found : Option A) → judges_items rule ≡ true → OfItems (item rule place end judge found)
+of_items_item rule place end judge None right = tt
+of_items_item {A} {X} rule place end judge (Some a) right = go (judge a)
   where
-    go : (o : Option X) → Numbered (judgement number place end o)
-    go None = (low, high)
+    go : (o : Option X) → OfItems (judgement rule place end o)
+    go None = right
     go (Some x) = tt
 
-numbered_byte : {X : Type 0} (number : ℕ) (judge : ℕ → Option X) (bs : List ℕ) (k : ℕ) → 3 ≤ number → number ≤ 5 → Numbered (byte_item number judge bs k)
-numbered_byte number judge bs k low high = numbered_item number k (k + 1) judge (byte_at bs k) low high
+of_items_byte : {X : Type 0} (rule : Rule) (judge : ℕ → Option X) (bs : List ℕ) (k : ℕ) → judges_items rule ≡ true → OfItems (byte_item rule judge bs k)
+of_items_byte rule judge bs k right = of_items_item rule k (k + 1) judge (byte_at bs k) right
 
-numbered_set : (test : ℕ → Bool) (bs : List ℕ) (k : ℕ) → Numbered (set_item test bs k)
-numbered_set test bs k = numbered_item 4 k (k + 4) (if_passes test) (word_at bs k) (lit≤ tt) (lit≤ tt)
+of_items_set : (test : ℕ → Bool) (bs : List ℕ) (k : ℕ) → OfItems (set_item test bs k)
+of_items_set test bs k = of_items_item WrongAtom k (k + 4) (if_passes test) (word_at bs k) refl
 
-numbered_expression : {X : Type 0} (whole : List ℕ → Reading X) (bs : List ℕ) (k : ℕ) → Numbered (expression_item whole bs k)
-numbered_expression {X} whole bs k = numbered_then (byte_item 5 (between 1 64) bs k) (expression_body whole bs) (numbered_byte 5 (between 1 64) bs k (lit≤ tt) (lit≤ tt)) (λ n k. from k (k + n) (part_at bs k n))
+of_items_expression : {X : Type 0} (whole : List ℕ → Reading X) (bs : List ℕ) (k : ℕ) → OfItems (expression_item whole bs k)
+of_items_expression {X} whole bs k = of_items_then (byte_item WrongExpression (between 1 64) bs k) (expression_body whole bs) (of_items_byte WrongExpression (between 1 64) bs k refl) (λ n k. from k (k + n) (part_at bs k n))
   where
-    judged : (k end : ℕ) (r : Reading X) → Numbered (expression_judged k end r)
+    judged : (k end : ℕ) (r : Reading X) → OfItems (expression_judged k end r)
     judged k end (good x j) = tt
-    judged k end (bad place) = (lit≤ tt, lit≤ tt)
+    judged k end (bad place) = refl
 
-    from : (k end : ℕ) (o : Option (List ℕ)) → Numbered (expression_of whole k end o)
+    from : (k end : ℕ) (o : Option (List ℕ)) → OfItems (expression_of whole k end o)
     from k end None = tt
     from k end (Some part) = judged k end (whole part)
 
-numbered_many : {X : Type 0} (read : List ℕ → ℕ → Step X) → ((bs : List ℕ) (k : ℕ) → Numbered (read bs k)) → (n : ℕ) (bs : List ℕ) (k : ℕ) → Numbered (many read n bs k)
+of_items_many : {X : Type 0} (read : List ℕ → ℕ → Step X) → ((bs : List ℕ) (k : ℕ) → OfItems (read bs k)) → (n : ℕ) (bs : List ℕ) (k : ℕ) → OfItems (many read n bs k)
 unfolding many
-numbered_many read h zero bs k = tt
-numbered_many read h (suc n) bs k = numbered_then (read bs k) _ (h bs k) (λ x next. numbered_then (many read n bs next) _ (numbered_many read h n bs next) (λ xs end. tt))
+of_items_many read h zero bs k = tt
+of_items_many read h (suc n) bs k = of_items_then (read bs k) _ (h bs k) (λ x next. of_items_then (many read n bs next) _ (of_items_many read h n bs next) (λ xs end. tt))
 
-numbered_variables : (lowest n : ℕ) (bs : List ℕ) (k : ℕ) → Numbered (read_variables lowest n bs k)
+of_items_variables : (lowest n : ℕ) (bs : List ℕ) (k : ℕ) → OfItems (read_variables lowest n bs k)
 unfolding read_variables read_variable
-numbered_variables lowest zero bs k = tt
-numbered_variables lowest (suc n) bs k =
-    numbered_then (read_variable lowest bs k) _
-    (numbered_then (byte_item 3 (between lowest 31) bs k) _ (numbered_byte 3 (between lowest 31) bs k (lit≤ tt) (lit≤ tt)) (λ name k.
-    numbered_then (byte_item 3 kind_of bs k) _ (numbered_byte 3 kind_of bs k (lit≤ tt) (lit≤ tt)) (λ kind k.
-    numbered_then (byte_item 3 (between 1 255) bs k) _ (numbered_byte 3 (between 1 255) bs k (lit≤ tt) (lit≤ tt)) (λ top end. tt))))
-    (λ v k. numbered_then (read_variables (v.name + 1) n bs k) _ (numbered_variables (v.name + 1) n bs k) (λ vs end. tt))
+of_items_variables lowest zero bs k = tt
+of_items_variables lowest (suc n) bs k =
+    of_items_then (read_variable lowest bs k) _
+    (of_items_then (byte_item WrongVariable (between lowest 31) bs k) _ (of_items_byte WrongVariable (between lowest 31) bs k refl) (λ name k.
+    of_items_then (byte_item WrongVariable kind_of bs k) _ (of_items_byte WrongVariable kind_of bs k refl) (λ kind k.
+    of_items_then (byte_item WrongVariable (between 1 255) bs k) _ (of_items_byte WrongVariable (between 1 255) bs k refl) (λ top end. tt))))
+    (λ v k. of_items_then (read_variables (v.name + 1) n bs k) _ (of_items_variables (v.name + 1) n bs k) (λ vs end. tt))
 
-numbered_choice : (s : Seen) (count : ℕ) (bs : List ℕ) (k : ℕ) → Numbered (read_choice s count bs k)
+of_items_choice : (s : Seen) (count : ℕ) (bs : List ℕ) (k : ℕ) → OfItems (read_choice s count bs k)
 unfolding read_choice
-numbered_choice s count bs k =
-    numbered_then (expression_item (whole_truth 8 s) bs k) _ (numbered_expression (whole_truth 8 s) bs k) (λ guard k.
-    numbered_then (many (expression_item (whole_number 8 s)) count bs k) _ (numbered_many (expression_item (whole_number 8 s)) (numbered_expression (whole_number 8 s)) count bs k) (λ gives end. tt))
+of_items_choice s count bs k =
+    of_items_then (expression_item (whole_truth 8 s) bs k) _ (of_items_expression (whole_truth 8 s) bs k) (λ guard k.
+    of_items_then (many (expression_item (whole_number 8 s)) count bs k) _ (of_items_many (expression_item (whole_number 8 s)) (of_items_expression (whole_number 8 s)) count bs k) (λ gives end. tt))
 
-numbered_atom : (vs : List TableVariable) (bs : List ℕ) (k : ℕ) → Numbered (read_atom vs bs k)
+of_items_atom : (vs : List TableVariable) (bs : List ℕ) (k : ℕ) → OfItems (read_atom vs bs k)
 unfolding read_atom
-numbered_atom vs bs k =
-    numbered_then (set_item (names_own vs) bs k) _ (numbered_set (names_own vs) bs k) (λ controls k.
-    numbered_then (set_item (names_variables vs) bs k) _ (numbered_set (names_variables vs) bs k) (λ reads k.
-    numbered_then (set_item (names_variables vs) bs k) _ (numbered_set (names_variables vs) bs k) (λ awaits k.
-    numbered_then (byte_item 4 (between 1 8) bs k) _ (numbered_byte 4 (between 1 8) bs k (lit≤ tt) (lit≤ tt)) (λ initials k.
-    numbered_then (byte_item 4 (between 1 8) bs k) _ (numbered_byte 4 (between 1 8) bs k (lit≤ tt) (lit≤ tt)) (λ updates k.
-    numbered_then (many (read_choice (seen_in Initial reads awaits) (size controls)) initials bs k) _ (numbered_many (read_choice (seen_in Initial reads awaits) (size controls)) (numbered_choice (seen_in Initial reads awaits) (size controls)) initials bs k) (λ initial k.
-    numbered_then (many (read_choice (seen_in Update reads awaits) (size controls)) updates bs k) _ (numbered_many (read_choice (seen_in Update reads awaits) (size controls)) (numbered_choice (seen_in Update reads awaits) (size controls)) updates bs k) (λ update end. tt)))))))
+of_items_atom vs bs k =
+    of_items_then (set_item (names_own vs) bs k) _ (of_items_set (names_own vs) bs k) (λ controls k.
+    of_items_then (set_item (names_variables vs) bs k) _ (of_items_set (names_variables vs) bs k) (λ reads k.
+    of_items_then (set_item (names_variables vs) bs k) _ (of_items_set (names_variables vs) bs k) (λ awaits k.
+    of_items_then (byte_item WrongAtom (between 1 (most_choices Initial)) bs k) _ (of_items_byte WrongAtom (between 1 (most_choices Initial)) bs k refl) (λ initials k.
+    of_items_then (byte_item WrongAtom (between 1 (most_choices Update)) bs k) _ (of_items_byte WrongAtom (between 1 (most_choices Update)) bs k refl) (λ updates k.
+    of_items_then (many (read_choice (seen_in Initial reads awaits) (size controls)) initials bs k) _ (of_items_many (read_choice (seen_in Initial reads awaits) (size controls)) (of_items_choice (seen_in Initial reads awaits) (size controls)) initials bs k) (λ initial k.
+    of_items_then (many (read_choice (seen_in Update reads awaits) (size controls)) updates bs k) _ (of_items_many (read_choice (seen_in Update reads awaits) (size controls)) (of_items_choice (seen_in Update reads awaits) (size controls)) updates bs k) (λ update end. tt)))))))
 
-pub numbered_table : (bs : List ℕ) (k : ℕ) → Numbered (read_table bs k)
+pub of_items_table : (bs : List ℕ) (k : ℕ) → OfItems (read_table bs k)
 unfolding read_table
-numbered_table bs k =
-    numbered_then (byte_item 3 (between 0 32) bs k) _ (numbered_byte 3 (between 0 32) bs k (lit≤ tt) (lit≤ tt)) (λ count k.
-    numbered_then (read_variables 0 count bs k) _ (numbered_variables 0 count bs k) (λ variables k.
-    numbered_then (byte_item 4 (between 0 16) bs k) _ (numbered_byte 4 (between 0 16) bs k (lit≤ tt) (lit≤ tt)) (λ count k.
-    numbered_then (many (read_atom variables) count bs k) _ (numbered_many (read_atom variables) (numbered_atom variables) count bs k) (λ atoms end. tt))))
+of_items_table bs k =
+    of_items_then (byte_item WrongVariable (between 0 32) bs k) _ (of_items_byte WrongVariable (between 0 32) bs k refl) (λ count k.
+    of_items_then (read_variables 0 count bs k) _ (of_items_variables 0 count bs k) (λ variables k.
+    of_items_then (byte_item WrongAtom (between 0 16) bs k) _ (of_items_byte WrongAtom (between 0 16) bs k refl) (λ count k.
+    of_items_then (many (read_atom variables) count bs k) _ (of_items_many (read_atom variables) (of_items_atom variables) count bs k) (λ atoms end. tt))))
 
 -- ---- what opening gives
 
 no_table_right : TableRight no_table
 no_table_right = record { few_variables = lit≤ tt; variables_right = tt; few_atoms = lit≤ tt; atoms_right = tt }
 
--- what an opening that goes well gives is right, and any other has a number
-pub record Sound (o : Opened) : Type 0 where
+-- what an opening that goes well gives is right, and any other has a number above 0
+pub record Sound (o : Opening) : Type 0 where
   pub right : TableRight (syntax_of o)
   pub numbered : (f : Fault) → fault_of o ≡ Some f → 1 ≤ f.number
   pub empty : is_some (fault_of o) ≡ true → syntax_of o ≡ no_table
@@ -109,30 +112,38 @@ pub record Sound (o : Opened) : Type 0 where
 some_same : {X : Type 0} (x y : X) → Some x ≡ Some y → x ≡ y
 some_same x y e = cc
 
-opened_sound : (t : TableSyntax) → TableRight t → Sound (opened t)
+opened_sound : (t : TableSyntax) → TableRight t → Sound (opens_as t)
 opened_sound t h = record { right = h; numbered = λ f e. none_some f e; empty = λ e. absurd (false≢true e) }
 
-refused_sound : (number place : ℕ) → 1 ≤ number → Sound (refused number place)
-refused_sound number place h =
+number_some : (rule : Rule) → 1 ≤ rule_number rule
+number_some TooManyBytes = lit≤ tt
+number_some BytesMissing = lit≤ tt
+number_some WrongVariable = lit≤ tt
+number_some WrongAtom = lit≤ tt
+number_some WrongExpression = lit≤ tt
+number_some BytesLeftOver = lit≤ tt
+
+refused_sound : (rule : Rule) (place : ℕ) → Sound (breaks rule place)
+refused_sound rule place =
     record {
       right = no_table_right;
-      numbered = λ f e. let made : Fault = record { number = number; layer = 0; place = place } in subst (λ g. 1 ≤ g.number) (some_same made f e) h;
+      numbered = λ f e. subst (λ g. 1 ≤ g.number) (some_same (rule_fault rule place) f e) (number_some rule);
       empty = λ e. refl;
     }
 
-sound_by : (t : Bool) (x y : Opened) → Sound x → Sound y → Sound (cond t x y)
+sound_by : (t : Bool) (x y : Opening) → Sound x → Sound y → Sound (cond t x y)
 sound_by true x y h g = h
 sound_by false x y h g = g
 
-end_sound : (all : ℕ) (r : Step TableSyntax) → Numbered r → ((t : TableSyntax) (end : ℕ) → r ≡ fine t end → TableRight t) → Sound (at_end all r)
-end_sound all (fine t end) n h = sound_by (end == all) (opened t) (refused 6 end) (opened_sound t (h t end refl)) (refused_sound 6 end (lit≤ tt))
-end_sound all (wrong number place end) n h = refused_sound number place (omega (arith, n.0))
-end_sound all short n h = refused_sound 2 all (lit≤ tt)
+end_sound : (all : ℕ) (r : Step TableSyntax) → ((t : TableSyntax) (end : ℕ) → r ≡ fine t end → TableRight t) → Sound (at_end all r)
+end_sound all (fine t end) h = sound_by (end == all) (opens_as t) (breaks BytesLeftOver end) (opened_sound t (h t end refl)) (refused_sound BytesLeftOver end)
+end_sound all (wrong rule place end) h = refused_sound rule place
+end_sound all short h = refused_sound BytesMissing all
 
-pub table_sound : (bs : List ℕ) → Sound (table_opened bs)
+pub table_sound : (bs : List ℕ) → Sound (opening_of bs)
 table_sound bs =
-    sound_by (nat_lt 4096 (length bs)) (refused 1 0) (at_end (length bs) (read_table bs 0)) (refused_sound 1 0 (lit≤ tt))
-    (end_sound (length bs) (read_table bs 0) (numbered_table bs 0) (λ t end e. (table_read bs 0 t end e).holds))
+    sound_by (nat_lt 4096 (length bs)) (breaks TooManyBytes 0) (at_end (length bs) (read_table bs 0)) (refused_sound TooManyBytes 0)
+    (end_sound (length bs) (read_table bs 0) (λ t end e. (table_read bs 0 t end e).holds))
 
 -- ---- the outline
 
@@ -232,7 +243,7 @@ module _ (t : TableSyntax) (right : TableRight t) where
       let r = atom_known a f.atom f.is in
       named_pass f.atom.controls is_own n r.controls_word (and_parts (some (bit f.atom.controls) 32) _ r.controls_own).1 f.here
 
-  pub outline_laws : (fault : Option Fault) → ((f : Fault) → fault ≡ Some f → 1 ≤ f.number) → (is_some fault ≡ true → t ≡ no_table) → OutlineLaws (outline_of fault t)
+  pub outline_laws : (fault : Option Fault) → ((f : Fault) → fault ≡ Some f → 1 ≤ f.number) → (is_some fault ≡ true → t ≡ no_table) → OutlineLaws (syntax_outline fault t)
   outline_laws fault numbered empty =
       record {
         some_layer = lit≤ tt;
@@ -261,38 +272,34 @@ module _ (t : TableSyntax) (right : TableRight t) where
 
   -- ---- the choices
 
-  choices_right : (r : Round) (a : ℕ) (x : TableAtom) → slice_get t.atoms a ≡ Some x → ChoicesRight (seen_in r x.reads x.awaits) (size x.controls) (choices_of r (Some x))
+  choices_right : (r : Round) (a : ℕ) (x : TableAtom) → slice_get t.atoms a ≡ Some x → ChoicesRight r (seen_in r x.reads x.awaits) (size x.controls) (choices_in r (Some x))
   choices_right Initial a x e = (atom_known a x e).initial_right
   choices_right Update a x e = (atom_known a x e).update_right
 
-  no_choices : (r : Round) → length (choices_of r None) ≡ 0
+  no_choices : (r : Round) → length (choices_in r None) ≡ 0
   no_choices Initial = refl
   no_choices Update = refl
 
-  none_there : (r : Round) (k : ℕ) → slice_get (choices_of r None) k ≡ None
+  none_there : (r : Round) (k : ℕ) → slice_get (choices_in r None) k ≡ None
   none_there Initial k = refl
   none_there Update k = refl
 
-  within_most : (r : Round) (n : ℕ) → n ≤ 8 → n ≤ most_choices r
-  within_most Initial n h = h
-  within_most Update n h = h
-
-  few : (r : Round) (a : ℕ) (o : Option TableAtom) → slice_get t.atoms a ≡ o → length (choices_of r o) ≤ 8
-  few r a None e = omega (arith, no_choices r)
+  few : (r : Round) (a : ℕ) (o : Option TableAtom) → slice_get t.atoms a ≡ o → length (choices_in r o) ≤ most_choices r
+  few r a None e = subst (λ n. n ≤ most_choices r) (sym (no_choices r)) zero-le
   few r a (Some x) e = (choices_right r a x e).few_choices
 
   given_none : (b : Bool) (place : ℕ) (old new : Valuation) → given b place None old new ≡ pos 0
   given_none true place old new = refl
   given_none false place old new = refl
 
-  gives_absent : (r : Round) (o : Option TableAtom) (k n : ℕ) (old new : Valuation) → length (choices_of r o) ≤ k → atom_gives r o k n old new ≡ pos 0
+  gives_absent : (r : Round) (o : Option TableAtom) (k n : ℕ) (old new : Valuation) → length (choices_in r o) ≤ k → atom_gives r o k n old new ≡ pos 0
   gives_absent r None k n old new h = refl
   gives_absent r (Some x) k n old new h =
-      ap (λ c. given (bit x.controls n) (count (bit x.controls) n) c old new) (slice_get_past (choices_of r (Some x)) k h) ∙ given_none (bit x.controls n) (count (bit x.controls) n) old new
+      ap (λ c. given (bit x.controls n) (count (bit x.controls) n) c old new) (slice_get_past (choices_in r (Some x)) k h) ∙ given_none (bit x.controls n) (count (bit x.controls) n) old new
 
   gives_other : (r : Round) (o : Option TableAtom) (k n : ℕ) (old new : Valuation) → in_set (λ x. x.controls) o n ≡ false → atom_gives r o k n old new ≡ pos 0
   gives_other r None k n old new h = refl
-  gives_other r (Some x) k n old new h = ap (λ b. given b (count (bit x.controls) n) (slice_get (choices_of r (Some x)) k) old new) h
+  gives_other r (Some x) k n old new h = ap (λ b. given b (count (bit x.controls) n) (slice_get (choices_in r (Some x)) k) old new) h
 
   -- whatever a choice gives is 0 or the value of a number that fits
   module _ (P : ℤ → Type 0) (old new : Valuation) (nought : P (pos 0)) where
@@ -311,7 +318,7 @@ module _ (t : TableSyntax) (right : TableRight t) where
     gives_by : ((s : Seen) (e : Number) → NumberFits s e → P (number_value e old new)) → (r : Round) (a : ℕ) (o : Option TableAtom) → slice_get t.atoms a ≡ o → (k n : ℕ) → P (atom_gives r o k n old new)
     gives_by each r a None e k n = nought
     gives_by each r a (Some x) e k n =
-        given_by (seen_in r x.reads x.awaits) (size x.controls) (each (seen_in r x.reads x.awaits)) (bit x.controls n) (count (bit x.controls) n) (choices_of r (Some x)) k (choices_right r a x e).each
+        given_by (seen_in r x.reads x.awaits) (size x.controls) (each (seen_in r x.reads x.awaits)) (bit x.controls n) (count (bit x.controls) n) (choices_in r (Some x)) k (choices_right r a x e).each
 
   fits_seen : (s : Seen) (e : Number) → NumberFits s e → number_sees s e ≡ true
   fits_seen s e f = (and_parts (nat_le (number_levels e) 8) (number_sees s e) f.right).1
@@ -323,24 +330,24 @@ module _ (t : TableSyntax) (right : TableRight t) where
   high_enough s old new p q e f = omega (arith, ints, number_high s e old new (fits_seen s e f) p q f.short_enough)
 
   -- values that look alike to the atom agree on what its choices see
-  agree : (fault : Option Fault) (r : Round) (a : ℕ) (x : TableAtom) (old new old' new' : Valuation) → slice_get t.atoms a ≡ Some x → Alike (outline_of fault t) r a old new old' new' → Agree (seen_in r x.reads x.awaits) old new old' new'
+  agree : (fault : Option Fault) (r : Round) (a : ℕ) (x : TableAtom) (old new old' new' : Valuation) → slice_get t.atoms a ≡ Some x → Alike (syntax_outline fault t) r a old new old' new' → Agree (seen_in r x.reads x.awaits) old new old' new'
   agree fault Initial a x old new old' new' e alike =
       record { old_same = λ n h. absurd (false≢true h); new_same = λ n h. alike.awaited n (ap (λ o. in_set (λ x. x.awaits) o n) e ∙ h) }
   agree fault Update a x old new old' new' e alike =
       record { old_same = λ n h. alike.read refl n (ap (λ o. in_set (λ x. x.reads) o n) e ∙ h); new_same = λ n h. alike.awaited n (ap (λ o. in_set (λ x. x.awaits) o n) e ∙ h) }
 
-  opens_alike : (fault : Option Fault) (r : Round) (a : ℕ) (o : Option TableAtom) → slice_get t.atoms a ≡ o → (k : ℕ) (old new old' new' : Valuation) → Alike (outline_of fault t) r a old new old' new' → choice_opens (slice_get (choices_of r o) k) old new ≡ choice_opens (slice_get (choices_of r o) k) old' new'
+  opens_alike : (fault : Option Fault) (r : Round) (a : ℕ) (o : Option TableAtom) → slice_get t.atoms a ≡ o → (k : ℕ) (old new old' new' : Valuation) → Alike (syntax_outline fault t) r a old new old' new' → choice_opens (slice_get (choices_in r o) k) old new ≡ choice_opens (slice_get (choices_in r o) k) old' new'
   opens_alike fault r a None e k old new old' new' alike = ap (λ c. choice_opens c old new) (none_there r k) ∙ sym (ap (λ c. choice_opens c old' new') (none_there r k))
-  opens_alike fault r a (Some x) e k old new old' new' alike = go (slice_get (choices_of r (Some x)) k) refl
+  opens_alike fault r a (Some x) e k old new old' new' alike = go (slice_get (choices_in r (Some x)) k) refl
     where
-      go : (c : Option TableChoice) → slice_get (choices_of r (Some x)) k ≡ c → choice_opens c old new ≡ choice_opens c old' new'
+      go : (c : Option TableChoice) → slice_get (choices_in r (Some x)) k ≡ c → choice_opens c old new ≡ choice_opens c old' new'
       go None is = refl
       go (Some c) is =
           let s = seen_in r x.reads x.awaits in
-          let right = all_nth (ChoiceRight s (size x.controls)) (choices_of r (Some x)) k c (choices_right r a x e).each is in
+          let right = all_nth (ChoiceRight s (size x.controls)) (choices_in r (Some x)) k c (choices_right r a x e).each is in
           truth_by_sight s old new old' new' (agree fault r a x old new old' new' e alike) c.guard (and_parts (nat_le (truth_levels c.guard) 8) (truth_sees s c.guard) right.guard_fits.right).1
 
-  gives_alike : (fault : Option Fault) (r : Round) (a : ℕ) (o : Option TableAtom) → slice_get t.atoms a ≡ o → (k n : ℕ) (old new old' new' : Valuation) → Alike (outline_of fault t) r a old new old' new' → atom_gives r o k n old new ≡ atom_gives r o k n old' new'
+  gives_alike : (fault : Option Fault) (r : Round) (a : ℕ) (o : Option TableAtom) → slice_get t.atoms a ≡ o → (k n : ℕ) (old new old' new' : Valuation) → Alike (syntax_outline fault t) r a old new old' new' → atom_gives r o k n old new ≡ atom_gives r o k n old' new'
   gives_alike fault r a None e k n old new old' new' alike = refl
   gives_alike fault r a (Some x) e k n old new old' new' alike = by (bit x.controls n)
     where
@@ -355,21 +362,21 @@ module _ (t : TableSyntax) (right : TableRight t) where
       number c right (Some y) is =
           number_by_sight s old new old' new' (agree fault r a x old new old' new' e alike) y (fits_seen s y (all_nth (NumberFits s) c.gives place y right.gives_fit is))
 
-      from : (c : Option TableChoice) → slice_get (choices_of r (Some x)) k ≡ c → value_of (slice_get (numbers_of c) place) old new ≡ value_of (slice_get (numbers_of c) place) old' new'
+      from : (c : Option TableChoice) → slice_get (choices_in r (Some x)) k ≡ c → value_of (slice_get (numbers_of c) place) old new ≡ value_of (slice_get (numbers_of c) place) old' new'
       from None is = refl
-      from (Some c) is = number c (all_nth (ChoiceRight s (size x.controls)) (choices_of r (Some x)) k c (choices_right r a x e).each is) (slice_get c.gives place) refl
+      from (Some c) is = number c (all_nth (ChoiceRight s (size x.controls)) (choices_in r (Some x)) k c (choices_right r a x e).each is) (slice_get c.gives place) refl
 
-      by : (b : Bool) → given b place (slice_get (choices_of r (Some x)) k) old new ≡ given b place (slice_get (choices_of r (Some x)) k) old' new'
-      by true = from (slice_get (choices_of r (Some x)) k) refl
+      by : (b : Bool) → given b place (slice_get (choices_in r (Some x)) k) old new ≡ given b place (slice_get (choices_in r (Some x)) k) old' new'
+      by true = from (slice_get (choices_in r (Some x)) k) refl
       by false = refl
 
-  pub choice_laws : (fault : Option Fault) → ChoiceLaws (outline_of fault t) (table_acts t)
+  pub choice_laws : (fault : Option Fault) → ChoiceLaws (syntax_outline fault t) (table_acts t)
   choice_laws fault =
       record {
-        some_choice = λ r a h. let f = found t.atoms a h in subst (λ o. 1 ≤ length (choices_of r o)) (sym f.1) (choices_right r a f.0 f.1).some_choice;
-        few_choices = λ r a. within_most r _ (few r a (slice_get t.atoms a) refl);
-        no_choice = λ r a h. ap (λ o. length (choices_of r o)) (slice_get_past t.atoms a h) ∙ no_choices r;
-        absent_closed = λ r a k old new h. ap (λ c. choice_opens c old new) (slice_get_past (choices_of r (slice_get t.atoms a)) k h);
+        some_choice = λ r a h. let f = found t.atoms a h in subst (λ o. 1 ≤ length (choices_in r o)) (sym f.1) (choices_right r a f.0 f.1).some_choice;
+        few_choices = λ r a. few r a (slice_get t.atoms a) refl;
+        no_choice = λ r a h. ap (λ o. length (choices_in r o)) (slice_get_past t.atoms a h) ∙ no_choices r;
+        absent_closed = λ r a k old new h. ap (λ c. choice_opens c old new) (slice_get_past (choices_in r (slice_get t.atoms a)) k h);
         absent_gives = λ r a k n old new h. gives_absent r (slice_get t.atoms a) k n old new h;
         other_gives = λ r a k n old new h. gives_other r (slice_get t.atoms a) k n old new h;
         gives_low = λ r a k n old new p q. gives_by (λ z. negsuc 32767 ≤ℤ z) old new (omega (arith, ints)) (λ s e f. low_enough s old new p q e f) r a (slice_get t.atoms a) refl k n;
@@ -377,13 +384,3 @@ module _ (t : TableSyntax) (right : TableRight t) where
         opens_by_sight = λ r a k old new old' new' alike. opens_alike fault r a (slice_get t.atoms a) refl k old new old' new' alike;
         gives_by_sight = λ r a k n old new old' new' alike. gives_alike fault r a (slice_get t.atoms a) refl k n old new old' new' alike;
       }
-
--- what the table that these bytes hold means, or an empty one where there is a fault
-abbrev pub table_meaning : List ℕ → Meaning
-table_meaning bs =
-    record {
-      outline = table_outline bs;
-      acts = table_acts (table_of bs);
-      outline_laws = outline_laws (table_of bs) (table_sound bs).right (table_fault bs) (table_sound bs).numbered (table_sound bs).empty;
-      choice_laws = choice_laws (table_of bs) (table_sound bs).right (table_fault bs);
-    }

@@ -8,16 +8,20 @@ use Rattle.std.proofs.lemmas.Bool.{and_parts, eqb-true, leb-true}
 use Rattle.std.specs.List.{flat_map, AllByRecursion, slice_get}
 use Rattle.model.specs.declared.Kind.{Kind}
 use Rattle.model.specs.declared.Kind.TheVariants.{Private, Interface, External}
+use Rattle.model.specs.Meanings.{most_choices}
+use Rattle.model.specs.declared.Round.{Round}
 use Rattle.model.specs.declared.Round.TheVariants.{Initial, Update}
-use Rattle.language.specs.ExpressionLaws.{none_some, bad_good, Stands, stands_append, byte_small, byte_is, ReadAs, number_read, truth_read}
+use Rattle.language.specs.laws.Expressions.{none_some, bad_good, Stands, stands_append, byte_small, byte_is, ReadAs, number_read, truth_read}
 use Rattle.language.specs.Expressions.{Number, Truth, number_bytes, truth_bytes, Seen, number_right, truth_right, as_byte, byte_at, Reading, good, bad, read_number, read_truth, to_the_end, whole_number, whole_truth}
+use Rattle.language.specs.declared.rules.Rule.{Rule}
+use Rattle.language.specs.declared.rules.Rule.TheVariants.{WrongVariable, WrongAtom, WrongExpression}
 use Rattle.language.specs.Tables.{TableVariable, TableChoice, TableAtom, TableSyntax, size, kind_byte, variable_bytes, word_bytes, with_length, number_item, choice_bytes, counts_bytes, atom_bytes, table_bytes, names_variables, names_own, seen_in, VariableRight, VariablesRight, TruthFits, NumberFits, ChoiceRight, ChoicesRight, AtomRight, TableRight, Step, fine, wrong, short, and_then, judgement, item, byte_item, if_passes, between, kind_of, joined_bytes, word_at, set_item, part_at, expression_judged, expression_of, expression_body, expression_item, many, read_variable, read_variables, read_choice, read_atom, read_table}
 
 short_fine : {X P : Type 0} (x : X) (end : ℕ) → short ≡ fine x end → P
 short_fine x end e = let z : ◌≡◌ {A = ℕ} 0 1 = cc in absurd (omega arith)
 
-wrong_fine : {X P : Type 0} (number place upto : ℕ) (x : X) (end : ℕ) → wrong number place upto ≡ fine x end → P
-wrong_fine number place upto x end e = let z : ◌≡◌ {A = ℕ} 0 1 = cc in absurd (omega arith)
+wrong_fine : {X P : Type 0} (rule : Rule) (place upto : ℕ) (x : X) (end : ℕ) → wrong rule place upto ≡ fine x end → P
+wrong_fine rule place upto x end e = let z : ◌≡◌ {A = ℕ} 0 1 = cc in absurd (omega arith)
 
 pub fine_same : {X : Type 0} (x y : X) (i j : ℕ) → fine x i ≡ fine y j → x ≡ y
 fine_same x y i j e = cc
@@ -40,7 +44,7 @@ pub record ThenRead {X Y : Type 0} (r : Step X) (next : X → ℕ → Step Y) (y
 
 pub then_read : {X Y : Type 0} (r : Step X) (next : X → ℕ → Step Y) (y : Y) (end : ℕ) → and_then r next ≡ fine y end → ThenRead r next y end
 then_read (fine x place) next y end e = record { first = x; place = place; first_read = refl; rest_read = e }
-then_read (wrong number place upto) next y end e = wrong_fine number place upto y end e
+then_read (wrong rule place upto) next y end e = wrong_fine rule place upto y end e
 then_read short next y end e = short_fine y end e
 
 by_parts : {X Y : Type 0} (P : Type 0) (r : Step X) (next : X → ℕ → Step Y) (y : Y) (end : ℕ) → and_then r next ≡ fine y end → ((x : X) (place : ℕ) → r ≡ fine x place → next x place ≡ fine y end → P) → P
@@ -53,12 +57,12 @@ pub record ItemRead {A X : Type 0} (judge : A → Option X) (found : Option A) (
   pub means : judge raw ≡ Some x
   pub ends : last ≡ end
 
-pub item_read : {A X : Type 0} (number place end : ℕ) (judge : A → Option X) (found : Option A) (x : X) (last : ℕ) → item number place end judge found ≡ fine x last → ItemRead judge found x last end
-item_read number place end judge None x last e = short_fine x last e
-item_read {A} {X} number place end judge (Some a) x last e = go (judge a) refl e
+pub item_read : {A X : Type 0} (rule : Rule) (place end : ℕ) (judge : A → Option X) (found : Option A) (x : X) (last : ℕ) → item rule place end judge found ≡ fine x last → ItemRead judge found x last end
+item_read rule place end judge None x last e = short_fine x last e
+item_read {A} {X} rule place end judge (Some a) x last e = go (judge a) refl e
   where
-    go : (o : Option X) → judge a ≡ o → judgement number place end o ≡ fine x last → ItemRead judge (Some a) x last end
-    go None h e = wrong_fine number place end x last e
+    go : (o : Option X) → judge a ≡ o → judgement rule place end o ≡ fine x last → ItemRead judge (Some a) x last end
+    go None h e = wrong_fine rule place end x last e
     go (Some y) h e = let same : y ≡ x = cc in let ends : end ≡ last = cc in record { raw = a; here = refl; means = h ∙ ap Some same; ends = sym ends }
 
 passed : {A : Type 0} (test : A → Bool) (a x : A) → if_passes test a ≡ Some x → (a ≡ x) × (test x ≡ true)
@@ -75,9 +79,9 @@ pub record Limited (bs : List ℕ) (k low high x end : ℕ) : Type 0 where
   pub below : x ≤ high
   pub ends : end ≡ k + 1
 
-pub limited_read : (number low high : ℕ) (bs : List ℕ) (k x end : ℕ) → byte_item number (between low high) bs k ≡ fine x end → Limited bs k low high x end
-limited_read number low high bs k x end e =
-    let r = item_read number k (k + 1) (between low high) (byte_at bs k) x end e in
+pub limited_read : (rule : Rule) (low high : ℕ) (bs : List ℕ) (k x end : ℕ) → byte_item rule (between low high) bs k ≡ fine x end → Limited bs k low high x end
+limited_read rule low high bs k x end e =
+    let r = item_read rule k (k + 1) (between low high) (byte_at bs k) x end e in
     let p = passed (λ b. nat_le low b && nat_le b high) r.raw x r.means in
     let q = and_parts (nat_le low x) (nat_le x high) p.1 in
     record { here = r.here ∙ ap Some p.0; above = leb-true low x q.0; below = leb-true x high q.1; ends = r.ends }
@@ -96,12 +100,12 @@ kind_is b kind e = go (b == 0) (b == 1) (b == 2) refl refl refl e
 pub variable_read : (lowest : ℕ) (bs : List ℕ) (k : ℕ) (v : TableVariable) (end : ℕ) → read_variable lowest bs k ≡ fine v end → Got bs k (variable_bytes v) (VariableRight lowest v) end
 unfolding read_variable
 variable_read lowest bs k v end e =
-    let named = then_read (byte_item 3 (between lowest 31) bs k) _ v end e in
-    let kinded = then_read (byte_item 3 kind_of bs named.place) _ v end named.rest_read in
-    let topped = then_read (byte_item 3 (between 1 255) bs kinded.place) _ v end kinded.rest_read in
-    let name = limited_read 3 lowest 31 bs k named.first named.place named.first_read in
-    let kind = item_read 3 named.place (named.place + 1) kind_of (byte_at bs named.place) kinded.first kinded.place kinded.first_read in
-    let top = limited_read 3 1 255 bs kinded.place topped.first topped.place topped.first_read in
+    let named = then_read (byte_item WrongVariable (between lowest 31) bs k) _ v end e in
+    let kinded = then_read (byte_item WrongVariable kind_of bs named.place) _ v end named.rest_read in
+    let topped = then_read (byte_item WrongVariable (between 1 255) bs kinded.place) _ v end kinded.rest_read in
+    let name = limited_read WrongVariable lowest 31 bs k named.first named.place named.first_read in
+    let kind = item_read WrongVariable named.place (named.place + 1) kind_of (byte_at bs named.place) kinded.first kinded.place kinded.first_read in
+    let top = limited_read WrongVariable 1 255 bs kinded.place topped.first topped.place topped.first_read in
     let last = topped.rest_read in
     let made : TableVariable = record { name = named.first; kind = kinded.first; top = topped.first } in
     let same : made ≡ v = fine_same made v topped.place end last in let ends : topped.place ≡ end = fine_ends made v topped.place end last in
@@ -167,7 +171,7 @@ word_read bs k w e =
 
 pub set_read : (test : ℕ → Bool) (bs : List ℕ) (k w end : ℕ) → set_item test bs k ≡ fine w end → Got bs k (word_bytes w) ((w < 2 ^ 32) × (test w ≡ true)) end
 set_read test bs k w end e =
-    let r = item_read 4 k (k + 4) (if_passes test) (word_at bs k) w end e in
+    let r = item_read WrongAtom k (k + 4) (if_passes test) (word_at bs k) w end e in
     let p = passed test r.raw w r.means in
     let word = word_read bs k w (r.here ∙ ap Some p.0) in
     record { stands = word.0; ends = r.ends; holds = (word.1, p.1) }
@@ -226,7 +230,7 @@ module _ {X : Type 0} (read : List ℕ → ℕ → Reading X) (form : X → List
   body_read bs n k x end e = from (part_at bs k n) refl e
     where
       judge : (part : List ℕ) → PartRead bs k n part → (r : Reading X) → whole part ≡ r → expression_judged k (k + n) r ≡ fine x end → Got bs k (form x) ((right x ≡ true) × (length (form x) ≡ n)) end
-      judge part p (bad place) h e = wrong_fine 5 (k + place) (k + n) x end e
+      judge part p (bad place) h e = wrong_fine WrongExpression (k + place) (k + n) x end e
       judge part p (good y j) h e =
           let same : y ≡ x = cc in let ends : k + n ≡ end = cc in
           let done = end_read (length part) (read part 0) y j h in
@@ -243,8 +247,8 @@ module _ {X : Type 0} (read : List ℕ → ℕ → Reading X) (form : X → List
   pub expression_read : (bs : List ℕ) (k : ℕ) (x : X) (end : ℕ) → expression_item (λ part. to_the_end (length part) (read part 0)) bs k ≡ fine x end → Got bs k (with_length (form x)) ((right x ≡ true) × (length (form x) ≤ 64)) end
   unfolding whole
   expression_read bs k x end e =
-      let r = then_read (byte_item 5 (between 1 64) bs k) (expression_body whole bs) x end e in
-      let sized = limited_read 5 1 64 bs k r.first r.place r.first_read in
+      let r = then_read (byte_item WrongExpression (between 1 64) bs k) (expression_body whole bs) x end e in
+      let sized = limited_read WrongExpression 1 64 bs k r.first r.place r.first_read in
       let body = body_read bs r.first r.place x end r.rest_read in
       record {
         stands = (sized.here ∙ ap Some (sym body.holds.1), subst (λ i. Stands bs i (form x)) sized.ends body.stands);
@@ -305,26 +309,26 @@ both_stand : (bs : List ℕ) (k j end : ℕ) (xs ys : List ℕ) (P Q : Type 0) �
 both_stand bs k j end xs ys P Q g h =
     record { stands = stands_append bs k j xs ys g.ends g.stands h.stands; ends = omega (arith, g.ends, h.ends, length-append xs ys); holds = (g.holds, h.holds) }
 
-choices_read : (s : Seen) (count n : ℕ) (bs : List ℕ) (k : ℕ) (cs : List TableChoice) (end : ℕ) → 1 ≤ n → n ≤ 8 → many (read_choice s count) n bs k ≡ fine cs end → Got bs k (flat_map choice_bytes cs) ((length cs ≡ n) × ChoicesRight s count cs) end
-choices_read s count n bs k cs end low high e =
-    let r = many_read (read_choice s count) choice_bytes (ChoiceRight s count) (choice_read s count) n bs k cs end e in
-    let sized = r.holds.0 in
-    record { stands = r.stands; ends = r.ends; holds = (sized, record { some_choice = omega arith; few_choices = omega arith; each = r.holds.1 }) }
+at_most : (a b c : ℕ) → a ≡ b → b ≤ c → a ≤ c
+at_most a b c e h = omega arith
+
+choices_read : (r : Round) (s : Seen) (count n : ℕ) (bs : List ℕ) (k : ℕ) (cs : List TableChoice) (end : ℕ) → 1 ≤ n → n ≤ most_choices r → many (read_choice s count) n bs k ≡ fine cs end → Got bs k (flat_map choice_bytes cs) ((length cs ≡ n) × ChoicesRight r s count cs) end
+choices_read r s count n bs k cs end low high e =
+    let got = many_read (read_choice s count) choice_bytes (ChoiceRight s count) (choice_read s count) n bs k cs end e in
+    let sized = got.holds.0 in
+    record { stands = got.stands; ends = got.ends; holds = (sized, record { some_choice = omega arith; few_choices = at_most (length cs) n (most_choices r) sized high; each = got.holds.1 }) }
 
 two_on : (k i j : ℕ) → i ≡ k + 1 → j ≡ i + 1 → j ≡ k + 2
 two_on k i j e h = omega arith
-
-at_most : (a b c : ℕ) → a ≡ b → b ≤ c → a ≤ c
-at_most a b c e h = omega arith
 
 -- an atom from its parts
 atom_whole : (vs : List TableVariable) (bs : List ℕ) (k k₁ k₂ k₃ k₄ k₅ k₆ end m n : ℕ) (a : TableAtom) →
     Got bs k (word_bytes a.controls) ((a.controls < 2 ^ 32) × (names_own vs a.controls ≡ true)) k₁ →
     Got bs k₁ (word_bytes a.reads) ((a.reads < 2 ^ 32) × (names_variables vs a.reads ≡ true)) k₂ →
     Got bs k₂ (word_bytes a.awaits) ((a.awaits < 2 ^ 32) × (names_variables vs a.awaits ≡ true)) k₃ →
-    Limited bs k₃ 1 8 m k₄ → Limited bs k₄ 1 8 n k₅ →
-    Got bs k₅ (flat_map choice_bytes a.initial) ((length a.initial ≡ m) × ChoicesRight (seen_in Initial a.reads a.awaits) (size a.controls) a.initial) k₆ →
-    Got bs k₆ (flat_map choice_bytes a.update) ((length a.update ≡ n) × ChoicesRight (seen_in Update a.reads a.awaits) (size a.controls) a.update) end →
+    Limited bs k₃ 1 (most_choices Initial) m k₄ → Limited bs k₄ 1 (most_choices Update) n k₅ →
+    Got bs k₅ (flat_map choice_bytes a.initial) ((length a.initial ≡ m) × ChoicesRight Initial (seen_in Initial a.reads a.awaits) (size a.controls) a.initial) k₆ →
+    Got bs k₆ (flat_map choice_bytes a.update) ((length a.update ≡ n) × ChoicesRight Update (seen_in Update a.reads a.awaits) (size a.controls) a.update) end →
     Got bs k (atom_bytes a) (AtomRight vs a) end
 atom_whole vs bs k k₁ k₂ k₃ k₄ k₅ k₆ end m n a controls reads awaits initials updates initial update =
     let counts : Got bs k₃ (counts_bytes a) (Unit {0}) k₅ =
@@ -356,27 +360,27 @@ atom_read vs bs k a end e =
     by_parts P (set_item (names_own vs) bs k) _ a end e (λ controls k₁ e₁ rest.
     by_parts P (set_item (names_variables vs) bs k₁) _ a end rest (λ reads k₂ e₂ rest.
     by_parts P (set_item (names_variables vs) bs k₂) _ a end rest (λ awaits k₃ e₃ rest.
-    by_parts P (byte_item 4 (between 1 8) bs k₃) _ a end rest (λ m k₄ e₄ rest.
-    by_parts P (byte_item 4 (between 1 8) bs k₄) _ a end rest (λ n k₅ e₅ rest.
+    by_parts P (byte_item WrongAtom (between 1 (most_choices Initial)) bs k₃) _ a end rest (λ m k₄ e₄ rest.
+    by_parts P (byte_item WrongAtom (between 1 (most_choices Update)) bs k₄) _ a end rest (λ n k₅ e₅ rest.
     by_parts P (many (read_choice (seen_in Initial reads awaits) (size controls)) m bs k₅) _ a end rest (λ initial k₆ e₆ rest.
     by_parts P (many (read_choice (seen_in Update reads awaits) (size controls)) n bs k₆) _ a end rest (λ update k₇ e₇ last.
     let made : TableAtom = record { controls = controls; reads = reads; awaits = awaits; initial = initial; update = update } in
-    let initials = limited_read 4 1 8 bs k₃ m k₄ e₄ in let updates = limited_read 4 1 8 bs k₄ n k₅ e₅ in
+    let initials = limited_read WrongAtom 1 (most_choices Initial) bs k₃ m k₄ e₄ in let updates = limited_read WrongAtom 1 (most_choices Update) bs k₄ n k₅ e₅ in
     subst (λ x. Got bs k (atom_bytes x) (AtomRight vs x) end) (fine_same made a k₇ end last)
     (subst (λ i. Got bs k (atom_bytes made) (AtomRight vs made) i) (fine_ends made a k₇ end last)
     (atom_whole vs bs k k₁ k₂ k₃ k₄ k₅ k₆ k₇ m n made (set_read (names_own vs) bs k controls k₁ e₁) (set_read (names_variables vs) bs k₁ reads k₂ e₂) (set_read (names_variables vs) bs k₂ awaits k₃ e₃) initials updates
-    (choices_read (seen_in Initial reads awaits) (size controls) m bs k₅ initial k₆ initials.above initials.below e₆) (choices_read (seen_in Update reads awaits) (size controls) n bs k₆ update k₇ updates.above updates.below e₇))))))))))
+    (choices_read Initial (seen_in Initial reads awaits) (size controls) m bs k₅ initial k₆ initials.above initials.below e₆) (choices_read Update (seen_in Update reads awaits) (size controls) n bs k₆ update k₇ updates.above updates.below e₇))))))))))
 
 pub table_read : (bs : List ℕ) (k : ℕ) (t : TableSyntax) (end : ℕ) → read_table bs k ≡ fine t end → Got bs k (table_bytes t) (TableRight t) end
 unfolding read_table
 table_read bs k t end e =
     let P : Type 0 = Got bs k (table_bytes t) (TableRight t) end in
-    by_parts P (byte_item 3 (between 0 32) bs k) _ t end e (λ m k₁ e₁ rest.
+    by_parts P (byte_item WrongVariable (between 0 32) bs k) _ t end e (λ m k₁ e₁ rest.
     by_parts P (read_variables 0 m bs k₁) _ t end rest (λ vs k₂ e₂ rest.
-    by_parts P (byte_item 4 (between 0 16) bs k₂) _ t end rest (λ n k₃ e₃ rest.
+    by_parts P (byte_item WrongAtom (between 0 16) bs k₂) _ t end rest (λ n k₃ e₃ rest.
     by_parts P (many (read_atom vs) n bs k₃) _ t end rest (λ xs k₄ e₄ last.
     let made : TableSyntax = record { variables = vs; atoms = xs } in
-    let few = limited_read 3 0 32 bs k m k₁ e₁ in let fewer = limited_read 4 0 16 bs k₂ n k₃ e₃ in
+    let few = limited_read WrongVariable 0 32 bs k m k₁ e₁ in let fewer = limited_read WrongAtom 0 16 bs k₂ n k₃ e₃ in
     let variables = variables_read 0 m bs k₁ vs k₂ e₂ in
     let atoms = many_read (read_atom vs) atom_bytes (AtomRight vs) (atom_read vs) n bs k₃ xs k₄ e₄ in
     let first : Got bs k (length vs ∷ []) (Unit {0}) k₁ = record { stands = (few.here ∙ ap Some (sym variables.holds.0), tt); ends = few.ends; holds = tt } in
