@@ -1,6 +1,6 @@
 -- Tables keep the laws of drawings.
 use Rattle.std.specs.Prelude.{◌≡◌, ℕ, zero, suc, ◌+◌, ◌/◌, ◌%◌, ◌^◌, ◌<◌, ◌≤◌, Bool, true, false, cond, ◌⊎◌, List, [], ◌∷◌, length, ℤ, pos, negsuc, ◌≤ℤ◌, is_some, Some, None, Option, ◌==◌, ◌≢◌, nat_eq, nat_le, nat_lt, refl}
-use Rattle.std.proofs.Common.{inl, inr, sym, ap, subst, ◌∙◌, le_of_suc-le-suc, not-suc-le-zero, lt_of_lt_of_le, arith, lit≤, pow_mono}
+use Rattle.std.proofs.Common.{inl, inr, sym, ap, subst, zero-le, ◌∙◌, le_of_suc-le-suc, not-suc-le-zero, lt_of_lt_of_le, arith, lit≤, pow_mono}
 use Rattle.std.proofs.Math.Nat.{div-eq_of_lt}
 use Rattle.std.proofs.lemmas.Int.{ints}
 use Rattle.std.proofs.lemmas.Option.{slice_get_past}

@@ -1,5 +1,6 @@
 //! Opening a table.
-ghost use Rattle.language.specs.Tables.{opening_of, table_acts, table_of, table_outline};
+ghost use Rattle.language.specs.Meanings.{table_meaning};
+ghost use Rattle.language.specs.Tables.{opening_of};
 ghost use Rattle.std.specs.Prelude.{◌≡◌, ◌≤◌, length};
 ghost use Rattle.table.specs.Contents.{Copied};
 ghost use Rattle.table.specs.Kept.{contents, meaning_of};
@@ -19,8 +20,7 @@ fn copied(bytes: &[u8]) -> Result<Row<u8, 4096>, usize>
 impl Table {
     /// Opens any bytes. A fault still makes a table, which tells it and has no variables and no atoms.
     pub fn open(bytes: &[u8]) -> Table
-        ensures outline { (meaning_of result).outline ≡ table_outline bytes.now }
-        ensures acts { (meaning_of result).acts ≡ table_acts (table_of bytes.now) }
+        ensures means { meaning_of result ≡ table_meaning bytes.now }
         ensures opening { opening_of (contents result) ≡ opening_of bytes.now }
         ensures kept { length bytes.now ≤ 4096 → contents result ≡ bytes.now }
         ensures promised { OpensAsWritten bytes.now result }
