@@ -6,7 +6,7 @@ use Rattle.model.specs.Meanings.{OutlineFacts}
 use Rattle.model.specs.Tests.{lowest}
 use Rattle.model.specs.declared.Fault.{Fault}
 use Rattle.composition.proofs.Tests.{lowest_none_from, lowest_is}
-use Rattle.composition.specs.Allowed.{Renames, Hides}
+use Rattle.composition.specs.Allowed.{MayRename, MayHide}
 use Rattle.composition.specs.Faults.{deeper, raised, is_interface, rename_fault, hide_fault, clashes, differs, join_fault, fault_of_renamed, fault_of_hidden, fault_of_joined}
 use Rattle.model.specs.Faults.{own}
 use Rattle.composition.specs.Outlines.{sound_or}
@@ -19,14 +19,14 @@ module _ {A : Type 0} (f : Option Fault) (nothing x : A) where
   pub faulty_is : (g : Fault) → f ≡ Some g → sound_or f nothing x ≡ nothing
   faulty_is g e = ap (λ h. sound_or h nothing x) e
 
-pub rename_sound : (o : OutlineFacts) (a b : ℕ) → Renames o a b → fault_of_renamed o a b ≡ None
+pub rename_sound : (o : OutlineFacts) (a b : ℕ) → MayRename o a b → fault_of_renamed o a b ≡ None
 rename_sound o a b h =
     ap (λ f. option_or (raised 1 f) (rename_fault o a b)) h.sound ∙
     cond-false (not (is_some (o.kind a)) || is_some (o.kind b) || ltb 31 b) (Some (own 7 a)) None
     (or_from (not (is_some (o.kind a)) || is_some (o.kind b)) (ltb 31 b)
     (or_from (not (is_some (o.kind a))) (is_some (o.kind b)) (not_from_true (is_some (o.kind a)) h.old_there) (ap is_some h.new_free)) (le-ltb 31 b (omega (arith, h.new_name))))
 
-pub hide_sound : (o : OutlineFacts) (n : ℕ) → Hides o n → fault_of_hidden o n ≡ None
+pub hide_sound : (o : OutlineFacts) (n : ℕ) → MayHide o n → fault_of_hidden o n ≡ None
 hide_sound o n h = ap (λ f. option_or (raised 1 f) (hide_fault o n)) h.sound ∙ ap (λ k. cond (is_interface k) None (Some (own 8 n))) h.interface
 
 -- the faults of a join, first to last

@@ -8,7 +8,7 @@ use Rattle.composition.proofs.Faults.{sound_is}
 use Rattle.composition.specs.Acts.{seen_below}
 use Rattle.model.specs.Exchange.{exchange}
 use Rattle.composition.specs.laws.Exchange.{exchange_both}
-use Rattle.composition.specs.Allowed.{Renames}
+use Rattle.composition.specs.Allowed.{MayRename}
 use Rattle.composition.specs.laws.Faults.{renames}
 use Rattle.composition.specs.Faults.{fault_of_renamed}
 use Rattle.composition.specs.Outlines.{sound_or}
@@ -30,7 +30,7 @@ module _ (m : Meaning) (a b : ℕ) (sound : fault_of_renamed m.outline a b ≡ N
   abbrev found : Option Fault
   found = fault_of_renamed m.outline a b
 
-  fine : Renames m.outline a b
+  fine : MayRename m.outline a b
   fine = renames m.outline a b sound
 
   -- the new name is no variable

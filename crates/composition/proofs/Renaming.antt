@@ -19,7 +19,7 @@ use Rattle.composition.specs.Acts.{seen_below}
 use Rattle.composition.specs.Same.{SameAnswers}
 use Rattle.model.specs.Exchange.{exchange}
 use Rattle.composition.specs.laws.Exchange.{exchange_old, exchange_new, exchange_twice, exchange_flip, exchange_within}
-use Rattle.composition.specs.Allowed.{Renames}
+use Rattle.composition.specs.Allowed.{MayRename}
 use Rattle.composition.specs.laws.Faults.{renames}
 use Rattle.composition.specs.Faults.{fault_of_renamed}
 use Rattle.composition.specs.Meanings.{renamed}
@@ -42,7 +42,7 @@ module _ (m : Meaning) (a b : ℕ) (sound : fault_of_renamed m.outline a b ≡ N
   abbrev found : Option Fault
   found = fault_of_renamed m.outline a b
 
-  fine : Renames m.outline a b
+  fine : MayRename m.outline a b
   fine = renames m.outline a b sound
 
   pub old_name : a < 32

@@ -5,14 +5,14 @@ use Rattle.model.specs.declared.Kind.TheVariants.{Interface}
 use Rattle.composition.specs.Faults.{clash}
 
 -- the drawing has no fault, the old name is there, and the new one is a name that is not
-pub record Renames (o : OutlineFacts) (a b : ℕ) : Type 0 where
+pub record MayRename (o : OutlineFacts) (a b : ℕ) : Type 0 where
   pub sound : o.fault ≡ None
   pub old_there : is_some (o.kind a) ≡ true
   pub new_free : o.kind b ≡ None
   pub new_name : b < 32
 
 -- the drawing has no fault, and the name is interface
-pub record Hides (o : OutlineFacts) (n : ℕ) : Type 0 where
+pub record MayHide (o : OutlineFacts) (n : ℕ) : Type 0 where
   pub sound : o.fault ≡ None
   pub interface : o.kind n ≡ Some Interface
 

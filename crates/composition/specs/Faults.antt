@@ -47,12 +47,12 @@ join_fault l r =
     (cond (nat_lt 16 (l.atoms + r.atoms)) (Some (own 11 0)) None))
 
 -- as many layers, or as deep a one, as can be told
-abbrev pub told : ℕ → ℕ
-told layer = min 255 layer
+abbrev pub up_to_255 : ℕ → ℕ
+up_to_255 layer = min 255 layer
 
 -- a fault as it is told from so many layers above
 abbrev pub deeper : ℕ → Fault → Fault
-deeper by f = record { number = f.number; layer = told (by + f.layer); place = f.place }
+deeper by f = record { number = f.number; layer = up_to_255 (by + f.layer); place = f.place }
 
 abbrev pub raised : ℕ → Option Fault → Option Fault
 raised by f = option_map (deeper by) f

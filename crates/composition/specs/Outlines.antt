@@ -5,7 +5,7 @@ use Rattle.model.specs.declared.Fault.{Fault}
 use Rattle.model.specs.declared.Kind.{Kind}
 use Rattle.model.specs.declared.Kind.TheVariants.{Private, Interface, External}
 use Rattle.model.specs.Exchange.{exchange}
-use Rattle.composition.specs.Faults.{told, fault_of_renamed, fault_of_hidden, fault_of_joined}
+use Rattle.composition.specs.Faults.{up_to_255, fault_of_renamed, fault_of_hidden, fault_of_joined}
 
 -- x where there is no fault, else what tells nothing
 abbrev pub sound_or : {A : Type 0} → Option Fault → A → A → A
@@ -31,7 +31,7 @@ abbrev pub renamed_tables : OutlineFacts → ℕ → ℕ → OutlineFacts
 renamed_tables o a b =
     record {
       fault = None;
-      layers = told (1 + o.layers);
+      layers = up_to_255 (1 + o.layers);
       kind = λ n. o.kind (exchange a b n);
       top = λ n. o.top (exchange a b n);
       atoms = o.atoms;
@@ -44,7 +44,7 @@ abbrev pub hidden_tables : OutlineFacts → ℕ → OutlineFacts
 hidden_tables o name =
     record {
       fault = None;
-      layers = told (1 + o.layers);
+      layers = up_to_255 (1 + o.layers);
       kind = λ n. cond (n == name) (Some Private) (o.kind n);
       top = o.top;
       atoms = o.atoms;
@@ -72,7 +72,7 @@ abbrev pub joined_tables : OutlineFacts → OutlineFacts → OutlineFacts
 joined_tables l r =
     record {
       fault = None;
-      layers = told (1 + l.layers + r.layers);
+      layers = up_to_255 (1 + l.layers + r.layers);
       kind = λ n. joined_kind (l.kind n) (r.kind n);
       top = λ n. cond (is_some (l.kind n)) (l.top n) (r.top n);
       atoms = l.atoms + r.atoms;

@@ -4,7 +4,7 @@ use Rattle.model.specs.Meanings.{Valuation, OutlineFacts, Meaning}
 use Rattle.model.specs.States.{value, is_state, yields, Trajectory, Reachable}
 use Rattle.model.specs.declared.Fault.{Fault}
 use Rattle.model.specs.declared.Round.{Round}
-use Rattle.composition.specs.Allowed.{Renames, Hides, Fits}
+use Rattle.composition.specs.Allowed.{MayRename, MayHide, Fits}
 use Rattle.composition.specs.Faults.{is_private, is_interface, deeper, clashes, differs, fault_of_renamed, fault_of_hidden, fault_of_joined}
 use Rattle.model.specs.Faults.{own}
 use Rattle.composition.specs.Meanings.{renamed, hidden, joined}
@@ -35,8 +35,8 @@ pub record FaultsOfJoins : Type 0 where
 
 -- where nothing is wrong
 pub record SoundExactlyWhereAllowed : Type 0 where
-  pub renames : (o : OutlineFacts) (a b : ℕ) → fault_of_renamed o a b ≡ None ↔ Renames o a b
-  pub hides : (o : OutlineFacts) (n : ℕ) → fault_of_hidden o n ≡ None ↔ Hides o n
+  pub renames : (o : OutlineFacts) (a b : ℕ) → fault_of_renamed o a b ≡ None ↔ MayRename o a b
+  pub hides : (o : OutlineFacts) (n : ℕ) → fault_of_hidden o n ≡ None ↔ MayHide o n
   pub joins : (l r : Meaning) → fault_of_joined l.outline r.outline ≡ None ↔ ((l.outline.fault ≡ None) × (r.outline.fault ≡ None) × Fits l.outline r.outline)
 
 -- the list gives 0 to each name that is no variable

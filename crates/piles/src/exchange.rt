@@ -17,7 +17,7 @@ pub struct Exchange {
 }
 
 impl Exchange {
-    /// The exchange of the two, where both are names.
+    /// The exchange of the two, if both are names; none where one is above 31.
     pub fn of(one: u8, other: u8) -> Option<Exchange>
         ensures names { IfSome result (λ e. (e.one ≡ one) × (e.other ≡ other)) }
         ensures there { is_some result ≡ (nat_lt one 32 && nat_lt other 32) }

@@ -1,7 +1,7 @@
 //! What is wrong with a rename, a hide or a join, judged from the outlines alone. A fault below comes before a layer's
 //! own, and one of the left part before one of the right.
 ghost use Rattle.std.specs.Prelude.{◌≡◌};
-ghost use Rattle.composition.specs.Faults.{clashes, differs, join_fault, told, deeper, fault_of_renamed, fault_of_hidden, fault_of_joined};
+ghost use Rattle.composition.specs.Faults.{clashes, differs, join_fault, up_to_255, deeper, fault_of_renamed, fault_of_hidden, fault_of_joined};
 ghost use Rattle.model.specs.Tests.{lowest};
 
 use crate::rules::Rule;
@@ -10,9 +10,9 @@ use model::{Fault, Kind, Outline, lowest_below};
 // The most atoms that a drawing has.
 const ATOMS: u16 = 16;
 
-/// As many layers, or as deep a one, as can be told.
-pub fn told(layer: u16) -> u8
-    ensures { result ≡ told layer }
+/// A count of layers, or the depth of one, as a drawing tells it: above 255 as 255.
+pub fn up_to_255(layer: u16) -> u8
+    ensures { result ≡ up_to_255 layer }
 {
     layer.min(255) as u8
 }
@@ -22,7 +22,7 @@ fn deeper(fault: Fault, by: u16) -> Fault
     ensures { result ≡ deeper by fault }
 {
     Fault {
-        layer: told(by.saturating_add(u16::from(fault.layer))),
+        layer: up_to_255(by.saturating_add(u16::from(fault.layer))),
         ..fault
     }
 }
@@ -70,8 +70,7 @@ impl<L: Outline, R: Outline> Parts<'_, L, R> {
         lowest_below(32, |name| self.differ(name))
     }
 
-    // What is wrong with the join of two drawings that have no fault themselves. All three are looked for: where closures look for one
-    // after the other in these parts, what the whole answers was not proved (tried).
+    // What is wrong with the join of two drawings that have no fault themselves.
     fn own_fault(&self) -> Option<Fault>
         ensures { result ≡ join_fault (L.Outline.outline self.now.left.now) (R.Outline.outline self.now.right.now) }
     {
@@ -87,6 +86,7 @@ impl<L: Outline, R: Outline> Parts<'_, L, R> {
     }
 }
 
+/// What is wrong with the join of the two: a fault of the left part, of the right one, or of the join itself.
 pub fn join_fault<L: Outline, R: Outline>(left: &L, right: &R) -> Option<Fault>
     ensures { result ≡ fault_of_joined (L.Outline.outline left.now) (R.Outline.outline right.now) }
 {
@@ -97,7 +97,7 @@ pub fn join_fault<L: Outline, R: Outline>(left: &L, right: &R) -> Option<Fault>
         .or_else(|| Parts { left, right }.own_fault())
 }
 
-/// The old name must be there, and the new one a name that is not.
+/// What is wrong with the rename: a fault of the drawing below, or that the old name is not there, or the new one is or is no name.
 pub fn rename_fault<D: Outline>(below: &D, old: u8, new: u8) -> Option<Fault>
     ensures { result ≡ fault_of_renamed (D.Outline.outline below.now) old new }
 {
@@ -108,7 +108,7 @@ pub fn rename_fault<D: Outline>(below: &D, old: u8, new: u8) -> Option<Fault>
         .or_else(|| wrong.then(|| Rule::NewNameIsFree.broken(old)))
 }
 
-/// Only an interface name can be hidden.
+/// What is wrong with the hide: a fault of the drawing below, or that the name is not interface.
 pub fn hide_fault<D: Outline>(below: &D, name: u8) -> Option<Fault>
     ensures { result ≡ fault_of_hidden (D.Outline.outline below.now) name }
 {

@@ -5,10 +5,11 @@ ghost use Rattle.composition.specs.Outlines.{hidden_outline, sound_or};
 ghost use Rattle.std.specs.Prelude.{◌≡◌, None, Some, option_copied};
 ghost use Rattle.std.proofs.Common.{rules};
 
-use crate::faults::{hide_fault, told};
+use crate::faults::{hide_fault, up_to_255};
 use model::{Drawing, Fault, Kind, Names, Outline, Round, State};
 
-/// The fault is kept as it was when the name was hidden. It stands beside the drawing below, as a rename's does.
+/// A drawing with one of its interface names made private. Its fault is judged once, when it is made, and stands beside the drawing
+/// below, as a rename's does.
 #[derive(Drop)]
 pub struct Hide<D: Outline> {
     below: D,
@@ -18,7 +19,8 @@ pub struct Hide<D: Outline> {
 }
 
 impl<D: Outline> Hide<D> {
-    /// Hides in any drawing. A fault still makes a drawing, which tells it and has no variables and no atoms.
+    /// Hides the name. Where the drawing below has a fault, or the name is none of its interface, the hide has a fault: it tells it,
+    /// and has no variables and no atoms.
     pub fn new(below: D, name: u8) -> Hide<D>
         ensures below { result.below ≡ below }
         ensures name { result.name ≡ name }
@@ -43,7 +45,7 @@ impl<D: Outline> Outline for Hide<D> {
     }
 
     fn layers(&self) -> u8 {
-        told(u16::from(self.below.layers()).saturating_add(1))
+        up_to_255(u16::from(self.below.layers()).saturating_add(1))
     }
 
     fn kind(&self, name: u8) -> Option<Kind> {

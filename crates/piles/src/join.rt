@@ -5,11 +5,10 @@ ghost use Rattle.composition.specs.Outlines.{joined_kind, joined_outline};
 ghost use Rattle.std.specs.Prelude.{◌≡◌, None, IfNone, IfSome, IsSome};
 ghost use Rattle.std.proofs.Common.{rules};
 
-use crate::faults::{join_fault, told};
+use crate::faults::{join_fault, up_to_255};
 use model::{Drawing, Fault, Kind, Names, Outline, Round, State};
 
-/// The fault, and how many atoms the left part has, are kept as they were when the join was made. The fault stands beside the
-/// parts, as a rename's does.
+/// Two drawings side by side. The fault, and how many atoms the left part has, are found once, when the join is made.
 #[derive(Drop)]
 pub struct Join<L: Outline, R: Outline> {
     left: L,
@@ -21,7 +20,8 @@ pub struct Join<L: Outline, R: Outline> {
 }
 
 impl<L: Outline, R: Outline> Join<L, R> {
-    /// Joins any two drawings. A fault still makes a drawing, which tells it and has no variables and no atoms.
+    /// Joins the two. Where one has a fault, or a name that is private in one is there in the other or interface in both, or a
+    /// shared name has two tops, or there are more than 16 atoms, the join has a fault: it tells it, and has no variables and no atoms.
     pub fn new(left: L, right: R) -> Join<L, R>
         ensures left { result.left ≡ left }
         ensures right { result.right ≡ right }
@@ -63,7 +63,7 @@ impl<L: Outline, R: Outline> Outline for Join<L, R> {
     }
 
     fn layers(&self) -> u8 {
-        told(1 + u16::from(self.left.layers()) + u16::from(self.right.layers()))
+        up_to_255(1 + u16::from(self.left.layers()) + u16::from(self.right.layers()))
     }
 
     fn kind(&self, name: u8) -> Option<Kind> {

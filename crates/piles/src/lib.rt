@@ -10,7 +10,7 @@ mod rename;
 mod rules;
 
 pub use exchange::Exchange;
-pub use faults::{hide_fault, join_fault, rename_fault, told};
+pub use faults::{hide_fault, join_fault, rename_fault, up_to_255};
 pub use hide::Hide;
 pub use join::{Join, joined_kind};
 pub use rename::Rename;

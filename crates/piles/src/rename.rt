@@ -6,11 +6,11 @@ ghost use Rattle.std.specs.Prelude.{◌≡◌, ◌<◌, None, IfNone, IfSome, Is
 ghost use Rattle.std.proofs.Common.{rules};
 
 use crate::exchange::Exchange;
-use crate::faults::{rename_fault, told};
+use crate::faults::{rename_fault, up_to_255};
 use model::{Drawing, Fault, Kind, Names, Outline, Round, State};
 
-/// The fault is kept as it was when the rename was made. It stands beside the drawing below, in no Result with it, since a faulty
-/// rename has that drawing too and counts its layers.
+/// A drawing in which one name stands for another. Its fault is judged once, when it is made, and stands beside the drawing below:
+/// a faulty rename has that drawing too, and counts its layers.
 #[derive(Drop)]
 pub struct Rename<D: Outline> {
     below: D,
@@ -23,9 +23,9 @@ pub struct Rename<D: Outline> {
 }
 
 impl<D: Drawing> Rename<D> {
-    /// Renames in any drawing. A fault still makes a drawing, which tells it and has no variables and no atoms. The old and the new
-    /// name go as two numbers through all that renames: nothing is asked of them alone that a struct of both could answer, for any
-    /// two may be brought.
+    /// Puts the new name for the old one. Where the drawing below has a fault, or the old name is absent, or the new one is present
+    /// or above 31, the rename has a fault: it tells it, and has no variables and no atoms. That variables are names up to 31 is a
+    /// law of drawings, so this asks for one.
     pub fn new(below: D, old: u8, new: u8) -> Rename<D>
         ensures below { result.below ≡ below }
         ensures old { result.old ≡ old }
@@ -61,7 +61,7 @@ impl<D: Outline> Outline for Rename<D> {
     }
 
     fn layers(&self) -> u8 {
-        told(u16::from(self.below.layers()).saturating_add(1))
+        up_to_255(u16::from(self.below.layers()).saturating_add(1))
     }
 
     fn kind(&self, name: u8) -> Option<Kind> {
@@ -97,8 +97,7 @@ impl<D: Outline> Outline for Rename<D> {
     }
 }
 
-// The drawing below sees its own names: old and new values are told to it with the two names exchanged.
-// Two questions return early, since what the states are would be lost to the proof inside a closure.
+// The drawing below sees its own names: old and new values are handed to it with the two names exchanged.
 impl<D: Drawing> Drawing for Rename<D> {
     ghost meaning = { λ p. renamed (D.Drawing.meaning p.below) p.old p.new };
 

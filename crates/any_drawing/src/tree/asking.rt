@@ -5,7 +5,7 @@ ghost use Rattle.std.proofs.Common.{rules};
 use super::layer::Layer;
 use super::{AnyDrawing, Node};
 use model::{Drawing, Fault, Kind, Names, Outline, Round, State};
-use piles::{joined_kind, told};
+use piles::{joined_kind, up_to_255};
 
 impl Outline for AnyDrawing {
     ghost outline = { pile_outline };
@@ -25,10 +25,10 @@ impl Outline for AnyDrawing {
             Node::Table(table) => table.layers(),
             Node::Gates(list) => list.layers(),
             Node::Join { left, right, .. } => {
-                told(1 + u16::from(left.layers()) + u16::from(right.layers()))
+                up_to_255(1 + u16::from(left.layers()) + u16::from(right.layers()))
             }
             Node::Rename { below, .. } | Node::Hide { below, .. } => {
-                told(1 + u16::from(below.layers()))
+                up_to_255(1 + u16::from(below.layers()))
             }
         }
     }

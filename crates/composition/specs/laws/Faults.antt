@@ -10,7 +10,7 @@ use Rattle.model.specs.declared.Kind.{Kind}
 use Rattle.model.specs.declared.Kind.TheVariants.{Private, Interface, External}
 use Rattle.composition.specs.Faults.{deeper, raised, is_interface, rename_fault, hide_fault, clashes, differs, join_fault, fault_of_renamed, fault_of_hidden, fault_of_joined}
 use Rattle.model.specs.Faults.{own}
-use Rattle.composition.specs.Allowed.{Renames, Hides}
+use Rattle.composition.specs.Allowed.{MayRename, MayHide}
 
 pub some≢none : {A : Type 0} (x : A) → Some x ≢ None
 some≢none x e = true≢false (ap is_some e)
@@ -35,7 +35,7 @@ pub none_from : {A : Type 0} (x : Option A) → is_some x ≡ false → x ≡ No
 none_from None e = refl
 none_from (Some x) e = absurd (true≢false e)
 
-pub renames : (o : OutlineFacts) (a b : ℕ) → fault_of_renamed o a b ≡ None → Renames o a b
+pub renames : (o : OutlineFacts) (a b : ℕ) → fault_of_renamed o a b ≡ None → MayRename o a b
 renames o a b e =
     let parts = or_none (raised 1 o.fault) (rename_fault o a b) e in
     let tests = or_parts (not (is_some (o.kind a)) || is_some (o.kind b)) (nat_lt 31 b) (fails _ (own 7 a) parts.1) in
@@ -53,7 +53,7 @@ interface_from (Some Private) e = absurd (true≢false (sym e))
 interface_from (Some Interface) e = refl
 interface_from (Some External) e = absurd (true≢false (sym e))
 
-pub hides : (o : OutlineFacts) (n : ℕ) → fault_of_hidden o n ≡ None → Hides o n
+pub hides : (o : OutlineFacts) (n : ℕ) → fault_of_hidden o n ≡ None → MayHide o n
 hides o n e =
     let parts = or_none (raised 1 o.fault) (hide_fault o n) e in
     record {

@@ -10,7 +10,7 @@ use Rattle.model.specs.declared.Kind.{Kind}
 use Rattle.model.specs.declared.Kind.TheVariants.{Private, Interface, External}
 use Rattle.model.specs.Exchange.{exchange}
 use Rattle.composition.specs.laws.Exchange.{exchange_twice, exchange_from, exchange_within}
-use Rattle.composition.specs.Allowed.{Renames, Hides}
+use Rattle.composition.specs.Allowed.{MayRename, MayHide}
 use Rattle.composition.specs.laws.Faults.{some≢none, none_from, Numbered, numbered_at, renames, renamed_numbered, hides, hidden_numbered, Joins, joins, joined_numbered}
 use Rattle.composition.specs.Faults.{is_private, is_interface, fault_of_renamed, fault_of_hidden, fault_of_joined}
 use Rattle.composition.specs.Outlines.{outline_with, renamed_tables, renamed_outline, hidden_tables, hidden_outline, joined_kind, by_atom, joined_tables, joined_outline}
@@ -40,7 +40,7 @@ outline_laws (Some f) o low high number laws =
     }
 
 module _ (o : OutlineFacts) (laws : OutlineLaws o) (a b : ℕ) where
-  renamed_sound : Renames o a b → OutlineLaws (outline_with None (renamed_tables o a b))
+  renamed_sound : MayRename o a b → OutlineLaws (outline_with None (renamed_tables o a b))
   renamed_sound fine =
       record {
         some_layer = omega arith;
@@ -70,12 +70,12 @@ private_external : Some Private ≡ Some External → ⊥
 private_external e = true≢false (ap is_private e)
 
 module _ (o : OutlineFacts) (laws : OutlineLaws o) (name : ℕ) where
-  pub hidden_there : Hides o name → (n : ℕ) → is_some ((hidden_tables o name).kind n) ≡ is_some (o.kind n)
+  pub hidden_there : MayHide o name → (n : ℕ) → is_some ((hidden_tables o name).kind n) ≡ is_some (o.kind n)
   hidden_there fine n =
       cond_both (n == name) (Some Private) (o.kind n) (λ k. is_some k ≡ is_some (o.kind n))
       (λ e. sym (ap is_some (ap o.kind (eqb-true n name e) ∙ fine.interface))) (λ e. refl)
 
-  hidden_sound : Hides o name → OutlineLaws (outline_with None (hidden_tables o name))
+  hidden_sound : MayHide o name → OutlineLaws (outline_with None (hidden_tables o name))
   hidden_sound fine =
       record {
         some_layer = omega arith;
