@@ -2,6 +2,7 @@ pub mod Accepted
 pub mod Counting
 pub mod Evidence
 pub mod Life
+pub mod Models
 pub mod Promises
 pub mod Refusals
 pub mod Rounds

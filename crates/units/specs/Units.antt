@@ -1,4 +1,5 @@
 -- Units: what each call answers and leaves. A refused call alters nothing but where this says so.
+pub use Rattle.units.specs.Models.{Mark, open_mark, held, broken, Claim, Phase, idle, standing, in_round, UnitModel, Slip, standing_state, kind_of_round, old_state}
 use Rattle.std.specs.Prelude.{ℕ, zero, suc, ◌+◌, max, Bool, true, false, cond, not, ◌&&◌, ◌||◌, List, [], ◌∷◌, ◌++◌, map, length, replicate, ℤ, pos, negsuc, is_some, Some, None, Option, ◌==◌, nat_le, nat_lt, slice_index_or, slice_set}
 use Rattle.std.specs.List.{slice_get}
 use Rattle.composition.specs.Meanings.{renamed, hidden, joined}
@@ -15,40 +16,8 @@ use Rattle.units.specs.Sealing.{at_lowest, if_so, is_external, verdict, ◌else�
 use Rattle.units.specs.declared.refusal.Refusal.{Refusal}
 use Rattle.units.specs.declared.refusal.Refusal.TheVariants.{TooManyClaims, NotIdle, NoRoomForClaim, WrongClaim, NoSuchClaim, WrongSize, NotAllHeld, RoundOpen, WrongValue, WrongSlip, NoRoundLeft, NoAtomToFire, MustWait, ChoiceNotOpen, AtomsMissing}
 
--- A claim is a truth about one state, whose values it sees as old ones, with the mark that evidence has given it.
-pub data Mark : Type 0 where
-  open_mark : Mark
-  held : Mark
-  broken : Mark
-
-pub record Claim : Type 0 where
-  pub says : Truth
-  pub mark : Mark
-
 abbrev pub holds : Claim → List ℕ → Bool
 holds c s = truth_value c.says (value s) (value nothing)
-
--- A unit is idle, has a state standing, or is in the middle of a round. A round has the state that stood before, none
--- in an initialization, the values given and made so far, and the atoms that have fired.
-pub data Phase : Type 0 where
-  idle : Phase
-  standing : List ℕ → Phase
-  in_round : Option (List ℕ) → List ℕ → List Bool → Phase
-
--- A unit: its module, its number, how many rounds were opened, whether it was joined with more claims than it can
--- carry, its claims and its phase.
-pub record UnitModel : Type 0 where
-  pub meaning : Meaning
-  pub number : ℕ
-  pub rounds : ℕ
-  pub crowded : Bool
-  pub claims : List Claim
-  pub phase : Phase
-
--- a slip is known by its two numbers alone
-pub record Slip : Type 0 where
-  pub unit : ℕ
-  pub round : ℕ
 
 -- an answer is a value, or a refusal
 pub data Answer (A : Type 0) : Type 0 where
@@ -214,12 +183,6 @@ open_refusal u given =
     else at_lowest WrongValue (lowest (wrong_value u.meaning.outline given) 32)
     else if_so NoRoundLeft (u.rounds == 4294967295)
 
--- the state that stands
-abbrev pub standing_state : Phase → Option (List ℕ)
-standing_state idle = None
-standing_state (standing s) = Some s
-standing_state (in_round before new fired) = before
-
 -- with no state standing the round is the initialization
 abbrev pub with_round : UnitModel → List ℕ → UnitModel
 with_round u given = record {
@@ -238,14 +201,6 @@ open_round u given = unless (open_refusal u given) u (with_round u given) (recor
 -- it is not the slip of the round that is open
 abbrev pub wrong_slip : UnitModel → Slip → Bool
 wrong_slip u slip = not (round_open u.phase && slip.unit == u.number && slip.round == u.rounds)
-
-abbrev pub kind_of_round : Option (List ℕ) → Round
-kind_of_round None = Initial
-kind_of_round (Some s) = Update
-
-abbrev pub old_state : Option (List ℕ) → List ℕ
-old_state None = nothing
-old_state (Some s) = s
 
 abbrev pub has_fired : List Bool → ℕ → Bool
 has_fired fired a = slice_index_or fired a false
