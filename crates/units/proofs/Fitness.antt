@@ -90,7 +90,7 @@ module _ (m : Meaning) (r : Round) (a : ℕ) (old new : Valuation) where
       go Initial = (or_parts (any (test m Initial a) (sights m.outline Initial a)) _ h).0
       go Update = (or_parts (any (test m Initial a) (sights m.outline Initial a)) _ h).1
 
-  never_stuck : gets_stuck m a ≡ false → InRange m.outline old → InRange m.outline new → (k : ℕ) × (k < m.acts.choices r a) × (m.acts.opens r a k old new ≡ true)
+  pub never_stuck : gets_stuck m a ≡ false → InRange m.outline old → InRange m.outline new → (k : ℕ) × (k < m.acts.choices r a) × (m.acts.opens r a k old new ≡ true)
   never_stuck h g j =
       let p : ℕ → Bool = λ k. m.acts.opens r a k (value seen_old) (value seen_new) in
       let found = (some_decides p (m.acts.choices r a)).0 (not-false (some p (m.acts.choices r a)) (never_seen nothing_open h g j)) in
@@ -103,7 +103,7 @@ module _ (m : Meaning) (r : Round) (a : ℕ) (old new : Valuation) where
   within_parts top (pos x) h = (x, refl, leb-true x top h)
   within_parts top (negsuc x) h = absurd (both_ways false refl h)
 
-  stays_in_range : leaves_range m a ≡ false → InRange m.outline old → InRange m.outline new → (k n : ℕ) → m.acts.opens r a k old new ≡ true → m.outline.controls a n ≡ true →
+  pub stays_in_range : leaves_range m a ≡ false → InRange m.outline old → InRange m.outline new → (k n : ℕ) → m.acts.opens r a k old new ≡ true → m.outline.controls a n ≡ true →
       (x : ℕ) × (m.acts.gives r a k n old new ≡ pos x) × (x ≤ m.outline.top n)
   stays_in_range h g j k n e c =
       let o : Bool = m.acts.opens r a k (value seen_old) (value seen_new) in
