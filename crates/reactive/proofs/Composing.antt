@@ -1,8 +1,8 @@
 -- The composition of compatible modules is a module.
 use Rattle.std.proofs.Common.{◌≡◌, ℕ, ◌⊎◌, ◌↔◌, List, ◌++◌, map, ap, inl, inr, ⊎_elim}
 use Rattle.theory.proofs.Members.{member_left, member_right, member_map}
-use Rattle.reactive.specs.Operations.{composed, NamesApart, Compatible, AwaitsInEither}
-use Rattle.reactive.specs.Reactive.{Variables, Valuation, Empty, Among, Module, Controlled, Variable, Executable, IsDeclaration, IsAtom, Awaits, IsModule}
+use Rattle.reactive.specs.Operations.{composed, NamesApart, SameValues, AwaitsInEither}
+use Rattle.reactive.specs.Reactive.{Variables, Valuation, Empty, Among, Module, Controlled, Variable, Executable, IsDeclaration, IsAtom, Awaits, Acyclic, IsModule}
 use Rattle.reactive.proofs.Same.{executable_same, plus_same}
 
 alike : {A : Type 0} → A ↔ A
@@ -26,7 +26,7 @@ pub awaits_joined : (P Q : Module) (x y : ℕ) → AwaitsInEither P Q x y → Aw
 awaits_joined P Q x y (inl w) = record { atom = inl w.atom; controls = w.controls; awaits = w.awaits }
 awaits_joined P Q x y (inr w) = record { atom = inr w.atom; controls = w.controls; awaits = w.awaits }
 
-module _ (P Q : Module) (p : IsModule P) (q : IsModule Q) (both : Compatible P Q)
+module _ (P Q : Module) (p : IsModule P) (q : IsModule Q) (apart : NamesApart P Q) (same_values : SameValues P Q)
     (left_decided : (x : ℕ) → Dec (P.interface x)) (right_decided : (x : ℕ) → Dec (Q.interface x)) where
   abbrev whole : Module
   whole = composed P Q
@@ -63,10 +63,10 @@ module _ (P Q : Module) (p : IsModule P) (q : IsModule Q) (both : Compatible P Q
   variable_split x (inr e) = ⊎_elim (λ h. inl (inr h)) (λ h. inr (inr h)) e.0
 
   left_typed : (x v : ℕ) → Variable P x → P.typed x v ↔ whole.typed x v
-  left_typed x v here = (λ h. (λ _. h, λ there. (both.same_values x v here there).0 h), λ h. h.0 here)
+  left_typed x v here = (λ h. (λ _. h, λ there. (same_values x v here there).0 h), λ h. h.0 here)
 
   right_typed : (x v : ℕ) → Variable Q x → Q.typed x v ↔ whole.typed x v
-  right_typed x v here = (λ h. (λ there. (both.same_values x v there here).1 h, λ _. h), λ h. h.1 here)
+  right_typed x v here = (λ h. (λ there. (same_values x v there here).1 h, λ _. h), λ h. h.1 here)
 
   moved : (R : Module) → ((x v : ℕ) → Variable R x → R.typed x v ↔ whole.typed x v) → (X Y Z : Variables) (act : Valuation → Valuation → Valuation → Type 0) →
       ((x : ℕ) → X x → Variable R x) → ((x : ℕ) → Y x → Variable R x) → ((x : ℕ) → Z x → Variable R x) →
@@ -101,14 +101,14 @@ module _ (P Q : Module) (p : IsModule P) (q : IsModule Q) (both : Compatible P Q
 
   one_kind : (x : ℕ) → whole.private x → whole.interface x → ⊥
   one_kind x (inl h) (inl k) = p.declaration.private_or_interface x h k
-  one_kind x (inl h) (inr k) = both.apart.left_private x h (inl (inr k))
-  one_kind x (inr h) (inl k) = both.apart.right_private x h (inl (inr k))
+  one_kind x (inl h) (inr k) = apart.left_private x h (inl (inr k))
+  one_kind x (inr h) (inl k) = apart.right_private x h (inl (inr k))
   one_kind x (inr h) (inr k) = q.declaration.private_or_interface x h k
 
   one_side : (x : ℕ) → Controlled whole x → whole.external x → ⊥
   one_side x (inr i) e = e.1 i
-  one_side x (inl (inl h)) e = ⊎_elim (λ k. p.declaration.controlled_or_external x (inl h) k) (λ k. both.apart.left_private x h (inr k)) e.0
-  one_side x (inl (inr h)) e = ⊎_elim (λ k. both.apart.right_private x h (inr k)) (λ k. q.declaration.controlled_or_external x (inl h) k) e.0
+  one_side x (inl (inl h)) e = ⊎_elim (λ k. p.declaration.controlled_or_external x (inl h) k) (λ k. apart.left_private x h (inr k)) e.0
+  one_side x (inl (inr h)) e = ⊎_elim (λ k. apart.right_private x h (inr k)) (λ k. q.declaration.controlled_or_external x (inl h) k) e.0
 
   declared : IsDeclaration whole
   declared =
@@ -128,7 +128,7 @@ module _ (P Q : Module) (p : IsModule P) (q : IsModule Q) (both : Compatible P Q
   each_atom (inl i) = member_left (map inl p.finite.0) (map inr q.finite.0) (inl i) (member_map inl p.finite.0 i (p.finite.1 i))
   each_atom (inr j) = member_right (map inl p.finite.0) (map inr q.finite.0) (inr j) (member_map inr q.finite.0 j (q.finite.1 j))
 
-  controls_exactly : (x : ℕ) → Controlled whole x ↔ ((i : P.Index ⊎ Q.Index) × (whole.atom i).controls x)
+  pub controls_exactly : (x : ℕ) → Controlled whole x ↔ ((i : P.Index ⊎ Q.Index) × (whole.atom i).controls x)
   controls_exactly x = (λ c. there (controlled_split x c), λ h. back h.0 h.1)
     where
       there : Controlled P x ⊎ Controlled Q x → (i : P.Index ⊎ Q.Index) × (whole.atom i).controls x
@@ -139,14 +139,14 @@ module _ (P Q : Module) (p : IsModule P) (q : IsModule Q) (both : Compatible P Q
       back (inl i) h = left_controlled x ((p.controls x).1 (i, h))
       back (inr j) h = right_controlled x ((q.controls x).1 (j, h))
 
-  one_controller : (i j : P.Index ⊎ Q.Index) (x : ℕ) → (whole.atom i).controls x → (whole.atom j).controls x → i ≡ j
+  pub one_controller : (i j : P.Index ⊎ Q.Index) (x : ℕ) → (whole.atom i).controls x → (whole.atom j).controls x → i ≡ j
   one_controller (inl i) (inl j) x h k = ap inl (p.one_controller i j x h k)
-  one_controller (inl i) (inr j) x h k = absurd (controlled_by_one P Q both.apart x ((p.controls x).1 (i, h)) ((q.controls x).1 (j, k)))
-  one_controller (inr i) (inl j) x h k = absurd (controlled_by_one P Q both.apart x ((p.controls x).1 (j, k)) ((q.controls x).1 (i, h)))
+  one_controller (inl i) (inr j) x h k = absurd (controlled_by_one P Q apart x ((p.controls x).1 (i, h)) ((q.controls x).1 (j, k)))
+  one_controller (inr i) (inl j) x h k = absurd (controlled_by_one P Q apart x ((p.controls x).1 (j, k)) ((q.controls x).1 (i, h)))
   one_controller (inr i) (inr j) x h k = ap inr (q.one_controller i j x h k)
 
-  pub composed_is_module : IsModule whole
-  composed_is_module =
+  pub composed_is_module : Acyclic (AwaitsInEither P Q) → IsModule whole
+  composed_is_module acyclic =
       record {
         declaration = declared;
         finite = (all_atoms, each_atom);
@@ -154,5 +154,5 @@ module _ (P Q : Module) (p : IsModule P) (q : IsModule Q) (both : Compatible P Q
         controls = controls_exactly;
         one_controller = one_controller;
         acyclic = λ x y h k.
-            both.acyclic x y (plus_same (Awaits whole) (AwaitsInEither P Q) (awaits_split P Q) x y h) (plus_same (Awaits whole) (AwaitsInEither P Q) (awaits_split P Q) y x k);
+            acyclic x y (plus_same (Awaits whole) (AwaitsInEither P Q) (awaits_split P Q) x y h) (plus_same (Awaits whole) (AwaitsInEither P Q) (awaits_split P Q) y x k);
       }

@@ -89,6 +89,18 @@ module _ (m : Meaning) where
         acyclic = acyclic_from m p.uncircled;
       }
 
+  -- the actions of a module's atoms are executable
+  module _ (p : IsModule (module_of m)) (a : ℕ) (l : a < m.outline.atoms) where
+    runs : (r : Round) → Runs m a r
+    runs Initial = (p.atoms (record { number = a; low = l })).init
+    runs Update = (p.atoms (record { number = a; low = l })).update
+
+    pub module_free : gets_stuck m a ≡ false
+    module_free = never_stuck m a runs
+
+    pub module_inside : leaves_range m a ≡ false
+    module_inside = never_outside m a runs
+
   module_fit : m.outline.fault ≡ None → IsModule (module_of m) → Limits m → Passed m
   module_fit sound p limits =
       record {
@@ -96,14 +108,10 @@ module _ (m : Meaning) where
         controlled = well_controlled m (λ n c. (p.controls n).0 c) p.one_controller;
         uncircled = no_circle m p.acyclic;
         sights = λ a l. at_most_back ((limits_of m).sight_counts a) 65536 (limits.sights a l);
-        free = λ a l. never_stuck m a (runs a l);
-        inside = λ a l. never_outside m a (runs a l);
+        free = module_free p;
+        inside = module_inside p;
         ways = at_most_back (limits_of m).width_counts 1048576 limits.ways;
       }
-    where
-      runs : (a : ℕ) → a < m.outline.atoms → (r : Round) → Runs m a r
-      runs a l Initial = (p.atoms (record { number = a; low = l })).init
-      runs a l Update = (p.atoms (record { number = a; low = l })).update
 
 pub fit_exactly : FitExactlyWhenAModuleWithinLimits
 fit_exactly m = (

@@ -7,6 +7,8 @@ pub mod Controlling
 pub mod Counting
 pub mod Deciding
 pub mod Fit
+pub mod FitUnits
+pub mod Joins
 pub mod Judged
 pub mod Leading
 pub mod Limits
@@ -19,6 +21,7 @@ pub mod Outcomes
 pub mod Piles
 pub mod Products
 pub mod Reaching
+pub mod Refusing
 pub mod Renamed
 pub mod Rounds
 pub mod Runs

@@ -31,7 +31,7 @@ plus_same R S h x y (one w) = one (h x y w)
 plus_same R S h x z (more {y = y} w p) = more (h x y w) (plus_same R S h y z p)
 
 module _ (P Q : Module) (s : SameModule P Q) where
-  controlled_there : (x : ℕ) → Controlled P x → Controlled Q x
+  pub controlled_there : (x : ℕ) → Controlled P x → Controlled Q x
   controlled_there x (inl h) = inl ((s.private x).0 h)
   controlled_there x (inr h) = inr ((s.interface x).0 h)
 
@@ -47,13 +47,13 @@ module _ (P Q : Module) (s : SameModule P Q) where
   variable_back x (inl h) = inl (controlled_back x h)
   variable_back x (inr h) = inr ((s.external x).1 h)
 
-  atom_back : (j : Q.Index) → SameAtom (P.atom (s.back j)) (Q.atom j)
+  pub atom_back : (j : Q.Index) → SameAtom (P.atom (s.back j)) (Q.atom j)
   atom_back j = subst (λ k. SameAtom (P.atom (s.back j)) (Q.atom k)) (s.back_and_there j) (s.atoms (s.back j))
 
-  awaits_back : (x y : ℕ) → Awaits Q x y → Awaits P x y
+  pub awaits_back : (x y : ℕ) → Awaits Q x y → Awaits P x y
   awaits_back x y w = record { atom = s.back w.atom; controls = ((atom_back w.atom).controls x).1 w.controls; awaits = ((atom_back w.atom).awaits y).1 w.awaits }
 
-  same_flipped : SameModule Q P
+  pub same_flipped : SameModule Q P
   same_flipped =
       record {
         private = λ x. Iff.symm (s.private x);

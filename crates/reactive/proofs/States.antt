@@ -18,7 +18,7 @@ use Rattle.reactive.specs.Statements.{StatesAgree, StatesAreThePublishedOnes}
 use Rattle.reactive.proofs.Leading.{Leading, alike_initially, leading_concerned, leading_from_taken, taken_from_leading}
 
 -- a variable is private, interface or external
-kind_split : (k : Option Kind) → is_some k ≡ true → ((k ≡ Some Private) ⊎ (k ≡ Some Interface)) ⊎ (k ≡ Some External)
+pub kind_split : (k : Option Kind) → is_some k ≡ true → ((k ≡ Some Private) ⊎ (k ≡ Some Interface)) ⊎ (k ≡ Some External)
 kind_split None e = absurd (both_ways false refl e)
 kind_split (Some Private) e = inl (inl refl)
 kind_split (Some Interface) e = inl (inr refl)

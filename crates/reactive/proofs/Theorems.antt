@@ -7,7 +7,7 @@ use Rattle.reactive.proofs.Deciding.{decided}
 use Rattle.reactive.proofs.Ordered.{in_order}
 
 pub compatible_compose : CompatibleModulesCompose
-compatible_compose d e p q both = composed_is_module (described d) (described e) p q both (decided d).interface (decided e).interface
+compatible_compose d e p q both = composed_is_module (described d) (described e) p q both.apart both.same_values (decided d).interface (decided e).interface both.acyclic
 
 pub has_order : EveryModuleHasAnOrder
 has_order d p = in_order (described d) p (decided d)

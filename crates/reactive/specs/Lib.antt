@@ -1,6 +1,8 @@
 pub mod Counts
 pub mod Descriptions
 pub mod Execution
+pub mod FitUnits
+pub mod Joins
 pub mod Limits
 pub mod Modules
 pub mod Operations

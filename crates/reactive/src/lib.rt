@@ -3,6 +3,8 @@
 #![tactic(auto)]
 
 ghost use Rattle.reactive.specs.Statements.{FitExactlyWhenAModuleWithinLimits, DrawingsHaveFiniteTypes, LimitsAreJudgedRightly, TheCountIsOfOutcomes, StatesAreThePublishedOnes, JoinsAreCompositions, RenamesAreRenamings, HidesAreHidings, OperationsAreJudgedRightly, FitUnitsHaveAnOrder, FitUnitsCompleteEveryRound, FitUnitsHaveAnInitialState};
+ghost use Rattle.reactive.specs.FitUnits.{UnitsAreFitExactlyWhenModulesWithinLimits};
+ghost use Rattle.reactive.specs.Joins.{JoinsAreRefusedAsPublished};
 ghost use Rattle.reactive.specs.Runs.{TrajectoriesAreThePublishedOnes, ReachableStatesCanBeListed};
 ghost use Rattle.reactive.specs.Theorems.{CompatibleModulesCompose, EveryModuleHasAnOrder, EveryOrderLeadsTheSame, EveryRoundCanBeCompleted};
 ghost use Rattle.reactive.specs.Piles.{JoinsAreMadeOfParts, RenamesAreMadeOfParts, HidesAreMadeOfParts};
@@ -65,6 +67,14 @@ pub fn hides_are_hidings()
 
 pub fn operations_are_judged_rightly()
     ensures { OperationsAreJudgedRightly }
+{}
+
+pub fn joins_are_refused_as_published()
+    ensures { JoinsAreRefusedAsPublished }
+{}
+
+pub fn units_are_fit_exactly_when_modules_within_limits()
+    ensures { UnitsAreFitExactlyWhenModulesWithinLimits }
 {}
 
 pub fn fit_units_have_an_order()
