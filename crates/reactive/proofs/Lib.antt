@@ -24,6 +24,7 @@ pub mod Reaching
 pub mod Refusing
 pub mod Renamed
 pub mod Rounds
+pub mod RoundsOfUnits
 pub mod Runs
 pub mod Same
 pub mod Sorting

@@ -2,7 +2,7 @@
 use Rattle.std.proofs.Common.{◌≡◌, ℕ, ◌≤◌, Bool, true, eqb, ◌↔◌, is_some, Some, None, ◌≢◌, sym, refl, ap, ◌∙◌, subst, inl, inr, ⊎_elim}
 use Rattle.std.proofs.lemmas.Bool.{true≢false, cond-true, cond-false, eq-eqb, ne_eqb}
 use Rattle.composition.specs.Acts.{acts_with, renamed_choices}
-use Rattle.composition.specs.Allowed.{Renames}
+use Rattle.composition.specs.Allowed.{MayRename}
 use Rattle.composition.specs.Outlines.{outline_with, renamed_tables}
 use Rattle.composition.specs.laws.Exchange.{exchange_both, exchange_old, exchange_twice}
 use Rattle.composition.specs.laws.Faults.{renames}
@@ -70,7 +70,7 @@ module _ (a b : ℕ) where
       },
     )
 
-module _ (m : Meaning) (a b : ℕ) (h : Renames m.outline a b) where
+module _ (m : Meaning) (a b : ℕ) (h : MayRename m.outline a b) where
   -- the new name is no variable
   free : (n : ℕ) → is_some (m.outline.kind n) ≡ true → n ≢ b
   free n e same = true≢false (sym e ∙ ap (λ k. is_some (m.outline.kind k)) same ∙ ap is_some h.new_free)

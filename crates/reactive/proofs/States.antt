@@ -78,7 +78,7 @@ module _ (m : Meaning) where
   )
 
   -- a successor of a state
-  follows : (s t : List ℕ) → IsState (module_of m) (value s) → Row m t → Successor m s t ↔ Follows (module_of m) (value s) (value t)
+  pub follows : (s t : List ℕ) → IsState (module_of m) (value s) → Row m t → Successor m s t ↔ Follows (module_of m) (value s) (value t)
   unfolding AllLead
   follows s t before row = (
     λ u. record { before = before; state = (states t row).0 (yields_parts m Update s t u.yielded).0; led = yields_leads Update s t u.yielded },

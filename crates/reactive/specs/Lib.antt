@@ -9,6 +9,7 @@ pub mod Operations
 pub mod Outcomes
 pub mod Piles
 pub mod Reactive
+pub mod Rounds
 pub mod Runs
 pub mod Statements
 pub mod Theorems

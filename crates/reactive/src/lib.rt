@@ -5,6 +5,7 @@
 ghost use Rattle.reactive.specs.Statements.{FitExactlyWhenAModuleWithinLimits, DrawingsHaveFiniteTypes, LimitsAreJudgedRightly, TheCountIsOfOutcomes, StatesAreThePublishedOnes, JoinsAreCompositions, RenamesAreRenamings, HidesAreHidings, OperationsAreJudgedRightly, FitUnitsHaveAnOrder, FitUnitsCompleteEveryRound, FitUnitsHaveAnInitialState};
 ghost use Rattle.reactive.specs.FitUnits.{UnitsAreFitExactlyWhenModulesWithinLimits};
 ghost use Rattle.reactive.specs.Joins.{JoinsAreRefusedAsPublished};
+ghost use Rattle.reactive.specs.Rounds.{RoundsEndAsTheModuleMay, RoundsLeadWhereverTheModuleMay};
 ghost use Rattle.reactive.specs.Runs.{TrajectoriesAreThePublishedOnes, ReachableStatesCanBeListed};
 ghost use Rattle.reactive.specs.Theorems.{CompatibleModulesCompose, EveryModuleHasAnOrder, EveryOrderLeadsTheSame, EveryRoundCanBeCompleted};
 ghost use Rattle.reactive.specs.Piles.{JoinsAreMadeOfParts, RenamesAreMadeOfParts, HidesAreMadeOfParts};
@@ -87,6 +88,14 @@ pub fn fit_units_complete_every_round()
 
 pub fn fit_units_have_an_initial_state()
     ensures { FitUnitsHaveAnInitialState }
+{}
+
+pub fn rounds_end_as_the_module_may()
+    ensures { RoundsEndAsTheModuleMay }
+{}
+
+pub fn rounds_lead_wherever_the_module_may()
+    ensures { RoundsLeadWhereverTheModuleMay }
 {}
 
 pub fn joins_are_made_of_parts()
