@@ -4,7 +4,7 @@ use Rattle.std.specs.BTreeMap.{get_by_text}
 use Rattle.std.specs.Str.{bytes_eq as same_text}
 use Rattle.any_drawing.specs.Meaning.{any_meaning}
 use Rattle.model.specs.Meanings.{Meaning}
-use Rattle.unit.specs.Models.{model_of}
+use Rattle.unit.specs.States.{model_of}
 use Rattle.units.specs.Units.{UnitModel}
 use Rattle.sessions.specs.declared.made.Made.{Made}
 use Rattle.sessions.specs.declared.made.Made.TheVariants.{Drawing, SealedUnit}
@@ -16,7 +16,7 @@ abbrev pub meaning_of : Pile → Meaning
 meaning_of d = any_meaning d
 
 abbrev pub unit_of : Sealed → UnitModel
-unit_of s = model_of (any_meaning s.unit.drawing) s.unit.core
+unit_of s = model_of (any_meaning s.unit.drawing) s.unit.state
 
 -- what the name stands for, if anything
 abbrev pub meant : Things → List ℕ → Option Made

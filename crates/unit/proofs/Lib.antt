@@ -1,1 +1,4 @@
-pub mod Sealed
+pub mod Calls
+pub mod Marking
+pub mod Reading
+pub mod Sealing

@@ -1,4 +1,7 @@
-pub mod Kept
-pub mod Models
+pub mod Calls
+pub mod Claims
+pub mod Invariants
+pub mod Phases
 pub mod Promises
-pub mod Sizes
+pub mod States
+pub mod Truths

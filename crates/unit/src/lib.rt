@@ -2,8 +2,8 @@
 #![tactic(auto)]
 
 mod claims;
-mod kept;
 mod phase;
+mod state;
 mod unit;
 
 pub use unit::Unit;

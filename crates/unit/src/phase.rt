@@ -1,5 +1,5 @@
 //! Where a unit is between calls.
-use model::{Names, State};
+use model::{Atoms, State};
 
 /// Idle, with a state standing, or in the middle of a round: the state that stood before it, none in an initialization,
 /// the values given and made so far, and which atoms have fired.
@@ -12,6 +12,6 @@ pub enum Phase {
     InRound {
         before: Option<State>,
         new: State,
-        fired: Names,
+        fired: Atoms,
     },
 }
