@@ -1,7 +1,7 @@
 //! What a name of a script can stand for.
 use crate::sealed::Sealed;
 use any_drawing::{AnyDrawing, Node};
-use model::{Outline, Question, State};
+use model::{Fault, Outline, Question, State};
 use std::alloc::{AllocError, Global};
 use wording::{ask_text, opening_text, outline_text, verdict_text};
 
@@ -32,7 +32,7 @@ impl Made {
                 heap,
                 name,
                 sealed.unit.drawing(),
-                sealed.unit.fault(),
+                sealed.unit.refusal().map(Fault::from),
             ),
         }
     }

@@ -52,17 +52,20 @@ impl UnitState {
 
     /// The state of a unit that is made anew of a drawing and of the claims brought to it, which are left out where it is unfit.
     /// It is idle.
-    pub fn new<D: Drawing>(drawing: &D, number: u32, rounds: u32, crowded: bool, claims: Claims) -> UnitState
-        ensures model {
-            model_of (D.Drawing.meaning drawing.now) result
-                ≡ new_unit (D.Drawing.meaning drawing.now) number rounds crowded (claims_of claims) }
+    pub fn new<D: Drawing>(
+        drawing: &D,
+        number: u32,
+        rounds: u32,
+        crowded: bool,
+        claims: Claims,
+    ) -> UnitState
+        ensures model { model_of (D.Drawing.meaning drawing.now) result
+            ≡ new_unit (D.Drawing.meaning drawing.now) number rounds crowded (claims_of claims) }
         ensures judged { result.verdict ≡ verdict_with (D.Drawing.meaning drawing.now) crowded }
         ensures ordered { result.order ≡ order_kept result.verdict (D.Drawing.meaning drawing.now).outline }
-        ensures in_order {
-            result.verdict ≡ None → AtomsInOrder (D.Drawing.meaning drawing.now).outline result.order }
-        ensures claims_see {
-            ClaimsSee (D.Drawing.meaning drawing.now) claims
-                → ClaimsSee (D.Drawing.meaning drawing.now) result.claims }
+        ensures in_order { result.verdict ≡ None → AtomsInOrder (D.Drawing.meaning drawing.now).outline result.order }
+        ensures claims_see { ClaimsSee (D.Drawing.meaning drawing.now) claims
+            → ClaimsSee (D.Drawing.meaning drawing.now) result.claims }
     {
         let verdict = verdict_with(drawing, crowded);
         let (claims, order) = match verdict {
@@ -128,15 +131,12 @@ impl UnitState {
     /// Makes a claim on the unit, with its mark open, and answers its number.
     pub fn claim<D: Drawing>(&mut self, drawing: &D, bytes: &[u8]) -> Result<u8, Refusal>
         requires { self.old.verdict ≡ verdict_of (model_of (D.Drawing.meaning drawing.now) self.old) }
-        ensures answer {
-            answer_of result ≡ (claim (model_of (D.Drawing.meaning drawing.now) self.old) bytes.now).answer }
-        ensures unit {
-            model_of (D.Drawing.meaning drawing.now) self.new
-                ≡ (claim (model_of (D.Drawing.meaning drawing.now) self.old) bytes.now).unit }
+        ensures answer { answer_of result ≡ (claim (model_of (D.Drawing.meaning drawing.now) self.old) bytes.now).answer }
+        ensures unit { model_of (D.Drawing.meaning drawing.now) self.new
+            ≡ (claim (model_of (D.Drawing.meaning drawing.now) self.old) bytes.now).unit }
         ensures others { SameButClaims self.old self.new }
-        ensures claims_see {
-            ClaimsSee (D.Drawing.meaning drawing.now) self.old.claims
-                → ClaimsSee (D.Drawing.meaning drawing.now) self.new.claims }
+        ensures claims_see { ClaimsSee (D.Drawing.meaning drawing.now) self.old.claims
+            → ClaimsSee (D.Drawing.meaning drawing.now) self.new.claims }
     {
         let claim = self.claim_on(drawing, bytes)?;
         Ok(self.claims.add(claim))

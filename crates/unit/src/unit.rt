@@ -24,9 +24,8 @@ impl<D: Drawing> Unit<D> {
     /// Seals any drawing. An unfit one still makes a unit, which tells what is wrong.
     pub fn seal(drawing: D, number: u32) -> Unit<D>
         ensures drawing { result.drawing ≡ drawing }
-        ensures model {
-            model_of (D.Drawing.meaning result.drawing) result.state
-                ≡ seal (D.Drawing.meaning drawing) number }
+        ensures model { model_of (D.Drawing.meaning result.drawing) result.state
+            ≡ seal (D.Drawing.meaning drawing) number }
         ensures rightly { SealedRightly (D.Drawing.meaning result.drawing) result.state }
     {
         let state = UnitState::new(&drawing, number, 0, false, Claims::none());
@@ -35,21 +34,18 @@ impl<D: Drawing> Unit<D> {
 
     /// With what an unfit unit refuses its calls; None where it is fit.
     pub fn refusal(&self) -> Option<Refusal>
-        ensures {
-            result ≡ verdict_of (model_of (D.Drawing.meaning self.now.drawing) self.now.state) }
+        ensures { result ≡ verdict_of (model_of (D.Drawing.meaning self.now.drawing) self.now.state) }
     {
         self.state.verdict()
     }
 
     /// The verdict as number, layer and place together, each 0 when fit.
     pub fn verdict(&self) -> (u8, u8, u16)
-        ensures numbers {
-            result
-                ≡ verdict_numbers
-                    (verdict_of (model_of (D.Drawing.meaning self.now.drawing) self.now.state)) }
-        ensures zero {
-            ZeroWhenFit
-                (verdict_of (model_of (D.Drawing.meaning self.now.drawing) self.now.state)) }
+        ensures numbers { result
+            ≡ verdict_numbers
+            (verdict_of (model_of (D.Drawing.meaning self.now.drawing) self.now.state)) }
+        ensures zero { ZeroWhenFit
+            (verdict_of (model_of (D.Drawing.meaning self.now.drawing) self.now.state)) }
     {
         fault_numbers(self.refusal().map(Fault::from))
     }
@@ -72,12 +68,10 @@ impl<D: Drawing> Unit<D> {
     /// the answer is its number, from 0. Refused with what `refusal` tells; with `NotIdle` where a state stands or a round is open;
     /// with `NoRoomForClaim` where there are eight claims; with `WrongClaim` where the bytes are no such truth.
     pub fn claim(&mut self, bytes: &[u8]) -> Result<u8, Refusal>
-        ensures answer {
-            answer_of result
-                ≡ (claim (model_of (D.Drawing.meaning self.old.drawing) self.old.state) bytes.now).answer }
-        ensures unit {
-            model_of (D.Drawing.meaning self.new.drawing) self.new.state
-                ≡ (claim (model_of (D.Drawing.meaning self.old.drawing) self.old.state) bytes.now).unit }
+        ensures answer { answer_of result
+            ≡ (claim (model_of (D.Drawing.meaning self.old.drawing) self.old.state) bytes.now).answer }
+        ensures unit { model_of (D.Drawing.meaning self.new.drawing) self.new.state
+            ≡ (claim (model_of (D.Drawing.meaning self.old.drawing) self.old.state) bytes.now).unit }
         ensures drawing { self.new.drawing ≡ self.old.drawing }
     {
         self.state.claim(&self.drawing, bytes)

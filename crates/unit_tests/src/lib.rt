@@ -1,6 +1,8 @@
-//! Tests of sealing. The expected verdicts are worked out by hand from the rules.
+//! Tests of units. The expected verdicts are worked out by hand from the rules.
 #![tactic(auto)]
 
+#[cfg(test)]
+mod claiming;
 #[cfg(test)]
 mod parts;
 #[cfg(test)]

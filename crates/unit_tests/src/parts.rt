@@ -2,9 +2,10 @@
 ghost use Rattle.std.specs.Prelude.{◌<◌, ◌≤◌, ℕ};
 
 use gates::GateList;
-use model::{Drawing, Fault};
+use model::Drawing;
 use samples::inverter;
 use unit::Unit;
+use units::Refusal;
 
 // A list of so many NOT gates, with the wire and the name of each by its number. The numbers are counted: tried as a zip of them
 // with the records, where the proof no longer has that a number is below the count, which the closure needs.
@@ -45,9 +46,17 @@ pub fn scattered(first: u8) -> GateList {
     inverters(8, |gate| (15, first + 2 * gate))
 }
 
-/// Is this what is wrong with the drawing, sealed as a unit of this number, and are its numbers, or zeros, the verdict?
-pub fn seals<D: Drawing + Drop>(drawing: D, fault: Option<Fault>) -> bool {
+/// Is a unit of this drawing refused so, and are these its number, layer and place?
+pub fn seals<D: Drawing + Drop>(
+    drawing: D,
+    refusal: Option<Refusal>,
+    numbers: (u8, u8, u16),
+) -> bool {
     let unit = Unit::seal(drawing, 7);
-    let numbers = fault.map_or((0, 0, 0), |fault| (fault.number, fault.layer, fault.place));
-    unit.fault() == fault && unit.verdict() == numbers && unit.number() == 7
+    unit.refusal() == refusal && unit.verdict() == numbers && unit.number() == 7
+}
+
+/// Is a unit of this drawing fit?
+pub fn is_fit<D: Drawing + Drop>(drawing: D) -> bool {
+    seals(drawing, None, (0, 0, 0))
 }

@@ -1,10 +1,11 @@
 //! Verdicts on byte tables, each at its edge.
 ghost use Rattle.std.specs.Prelude.{◌≤◌};
 
-use crate::parts::seals;
-use sealing::{Witness, outside_at, stuck_at};
+use crate::parts::{is_fit, seals};
 use model::{Fault, Round};
+use sealing::{Witness, outside_at, stuck_at};
 use table::Table;
+use units::Refusal;
 
 // So many external names of one top, and no atoms.
 fn externals(count: u8, top: u8) -> Table
@@ -58,49 +59,77 @@ fn later_gives(value: u8) -> Table {
 
 #[test]
 fn the_width_and_what_is_seen(rt: HostRuntime) {
-    assert!(rt; seals(externals(20, 1), None), "twenty external bits");
+    assert!(rt; is_fit(externals(20, 1)), "twenty external bits");
     assert!(rt;
-        seals(externals(21, 1), Some(Fault::own(17, 0))),
+        seals(externals(21, 1), Some(Refusal::TooWide), (17, 0, 0)),
         "twenty-one"
     );
     assert!(rt;
-        seals(externals(32, 255), Some(Fault::own(17, 0))),
+        seals(externals(32, 255), Some(Refusal::TooWide), (17, 0, 0)),
         "all names, all values"
     );
-    assert!(rt; seals(many_seen(1, 254), None), "65,536 values");
+    assert!(rt; is_fit(many_seen(1, 254)), "65,536 values");
     assert!(rt;
-        seals(many_seen(3, 254), Some(Fault::own(14, 0))),
+        seals(
+            many_seen(3, 254),
+            Some(Refusal::SeesTooMuch { atom: 0 }),
+            (14, 0, 0)
+        ),
         "one name more"
     );
 }
 
 #[test]
 fn control_and_choices(rt: HostRuntime) {
-    assert!(rt; seals(toggle(1), None), "the toggle");
+    assert!(rt; is_fit(toggle(1)), "the toggle");
     assert!(rt;
-        seals(toggle(2), Some(Fault::own(16, 0))),
+        seals(
+            toggle(2),
+            Some(Refusal::LeavesRange { atom: 0 }),
+            (16, 0, 0)
+        ),
         "a value out of range"
     );
-    assert!(rt; seals(controlling(8, 32), None), "each once");
+    assert!(rt; is_fit(controlling(8, 32)), "each once");
     assert!(rt;
-        seals(controlling(8, 8), Some(Fault::own(12, 3))),
+        seals(
+            controlling(8, 8),
+            Some(Refusal::NotOneController { name: 3 }),
+            (12, 0, 3)
+        ),
         "one twice, one never"
     );
     assert!(rt;
-        seals(controlling(32, 32), Some(Fault::own(12, 3))),
+        seals(
+            controlling(32, 32),
+            Some(Refusal::NotOneController { name: 3 }),
+            (12, 0, 3)
+        ),
         "the lowest name"
     );
     assert!(rt;
-        seals(open_only_at(0), Some(Fault::own(15, 0))),
+        seals(
+            open_only_at(0),
+            Some(Refusal::GetsStuck { atom: 0 }),
+            (15, 0, 0)
+        ),
         "no choice at 1"
     );
-    assert!(rt; seals(later_gives(1), None), "two open choices");
+    assert!(rt; is_fit(later_gives(1)), "two open choices");
     assert!(rt;
-        seals(later_gives(2), Some(Fault::own(16, 0))),
+        seals(
+            later_gives(2),
+            Some(Refusal::LeavesRange { atom: 0 }),
+            (16, 0, 0)
+        ),
         "the later one goes wrong"
     );
     assert!(rt;
-        seals(Table::open(&[1, 0, 1, 1]), Some(Fault::own(2, 4))),
+        seals(
+            Table::open(&[1, 0, 1, 1]),
+            Some(Refusal::FaultyDrawing(Fault::own(2, 4))),
+            (2, 0, 4)
+        ),
         "a fault of its own"
     );
 }

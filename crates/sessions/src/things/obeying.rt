@@ -10,7 +10,7 @@ use crate::made::Made;
 use crate::sealed::Sealed;
 use any_drawing::AnyDrawing;
 use commands::{ByteSource, Command, FileBytes, Mistake, state_of};
-use model::{Question, State};
+use model::{Fault, Question, State};
 use unit::Unit;
 use wording::verdict_text;
 
@@ -63,7 +63,7 @@ impl Things {
             } => self.seal(name, drawing, number),
             Command::Verdict { name } => {
                 let unit = &self.unit(&name)?.unit;
-                Ok(verdict_text(heap, &name, unit.drawing(), unit.fault())?)
+                Ok(verdict_text(heap, &name, unit.drawing(), unit.refusal().map(Fault::from))?)
             }
             Command::Outline { name } => Ok(self.get(&name)?.outline(heap)?),
             Command::Ask { name, asked } => {
