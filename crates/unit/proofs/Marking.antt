@@ -1,5 +1,5 @@
 -- A claim under another mark.
-use Rattle.std.proofs.Common.{◌≡◌, ℕ, zero, suc, Bool, true, false, List, [], ◌∷◌, map, Some, None, Option, slice_get, slice_set, sym, refl, ap, ◌∙◌, subst, length, ◌≤◌, arith}
+use Rattle.std.proofs.Common.{◌≡◌, ℕ, zero, suc, true, List, [], ◌∷◌, map, Some, slice_get, slice_set, sym, refl, ap, ◌∙◌, subst, length, ◌≤◌, arith}
 use Rattle.std.proofs.lemmas.Bool.{false≢true}
 use Rattle.model.specs.Rows.{listed}
 use Rattle.unit.specs.Claims.{claim_of, mark_of}

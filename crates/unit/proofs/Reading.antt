@@ -1,12 +1,15 @@
 -- What is read where fewer names are seen is read where all are.
-use Rattle.std.proofs.Common.{◌≡◌, ℕ, Bool, true, false, ◌&&◌, ltb, leb, List, length, sym, refl, ap, ◌∙◌, subst, nat_lt, nat_le, arith, suc, [], ◌∷◌, ◌||◌, ◌<◌, ◌≤◌, cond, eqb, is_some, Ok, Err, Some, None, Result}
+use Rattle.std.proofs.Common.{◌≡◌, ℕ, Bool, true, false, ◌&&◌, ltb, leb, List, length, sym, refl, ap, ap₂, ◌∙◌, subst, arith, suc, [], ◌∷◌, ◌||◌, ◌≤◌, cond, eqb, is_some, Ok, Err, Some, Result}
 use Rattle.std.proofs.lemmas.Bool.{and_from, and_parts, lt-ltb, le-ltb, ne_eqb}
 use Rattle.std.proofs.lemmas.List.{length-take}
 use Rattle.language.proofs.Expressions.{whole_expressions_are_written}
-use Rattle.language.specs.Expressions.{Number, constant, old_value, new_value, sum, difference, Truth, equal, less, negation, conjunction, disjunction, always, truth_bytes, truth_levels, Seen, number_sees, truth_sees, Reading, good, bad, expression_fault, read_truth, whole_truth}
-use Rattle.language.specs.ExpressionLaws.{bad_good}
+use Rattle.language.specs.Expressions.{Number, constant, old_value, new_value, sum, difference, Truth, equal, less, negation, conjunction, disjunction, always, truth_levels, Seen, number_sees, truth_sees, Reading, good, bad, expression_fault, read_truth, whole_truth}
+use Rattle.language.specs.laws.Expressions.{bad_good}
 use Rattle.model.specs.Meanings.{Meaning}
-use Rattle.expression.specs.Checking.{checked}
+use mathlib.Core.Path.{fun_ext}
+use Rattle.model.specs.Sets.{has}
+use Rattle.expression.specs.Checking.{checked, seen_of}
+use Rattle.expression.specs.declared.checking.Seen.{Seen as Names}
 use Rattle.units.specs.Units.{claim_reading, claim_sight}
 use Rattle.std.specs.Result.{result_ok}
 use Rattle.model.specs.Rows.{listed}
@@ -16,6 +19,12 @@ use Rattle.unit.specs.declared.claims.Mark.TheVariants.{Open}
 use Rattle.unit.proofs.Marking.{same_claim}
 use Rattle.expression.specs.Evaluation.{everything}
 use Rattle.unit.specs.Truths.{is_good, is_truth, read, truth_of}
+
+-- sets of names that hold the names seen
+pub seen_same : (s : Names) (t : Seen) → ((n : ℕ) → has s.old n ≡ t.old n) → ((n : ℕ) → has s.new n ≡ t.new n) → seen_of s ≡ t
+seen_same s t h g =
+    let make : (ℕ → Bool) → (ℕ → Bool) → Seen = λ old new. record { old = old; new = new } in
+    ap₂ make (fun_ext h) (fun_ext g)
 
 name_seen : (n : ℕ) (t : Bool) → (ltb n 256 && t) ≡ true → (ltb n 256 && true) ≡ true
 name_seen n t h = and_from (ltb n 256) true (and_parts (ltb n 256) t h).0 refl

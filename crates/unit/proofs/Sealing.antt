@@ -1,12 +1,11 @@
 -- What a new unit keeps, and what its verdict tells of the drawing.
-use Rattle.std.proofs.Common.{◌≡◌, ℕ, Bool, true, false, List, [], map, replicate, slice_get, Some, None, Option, sym, refl, ap, ◌∙◌, subst, arith}
+use Rattle.std.proofs.Common.{◌≡◌, ℕ, Bool, false, List, [], map, replicate, slice_get, Some, None, Option, sym, refl, ap, ◌∙◌, subst, arith}
 use Rattle.model.specs.Meanings.{OutlineFacts, Meaning}
-use Rattle.model.specs.Rows.{listed}
 use Rattle.units.specs.Sealing.{verdict, if_so, ◌else◌}
 use Rattle.units.specs.Life.{Came, by_seal}
 use Rattle.units.specs.declared.refusal.Refusal.{Refusal}
 use Rattle.units.specs.declared.refusal.Refusal.TheVariants.{TooManyClaims}
-use Rattle.units.specs.Units.{verdict_with, verdict_of, seal, Phase, idle}
+use Rattle.units.specs.Units.{verdict_with, verdict_of, seal, idle}
 use Rattle.units.proofs.Evidence.{else_parts}
 use Rattle.reactive.proofs.Fit.{passed, fit_exactly}
 use Rattle.reactive.proofs.Rounds.{fit_initial, fit_rounds}
@@ -15,8 +14,7 @@ use Rattle.unit.specs.Claims.{claim_of, claims_of}
 use Rattle.unit.specs.Invariants.{ClaimsSee, NoneBeyond, UnitInvariant, order_kept}
 use Rattle.unit.specs.States.{model_of, new_unit}
 use Rattle.unit.specs.Promises.{SealedRightly}
-use Rattle.unit.specs.Phases.{fired_at, phase_of}
-use Rattle.unit.specs.declared.claims.Claim.{Claim}
+use Rattle.unit.specs.Phases.{phase_of}
 use Rattle.unit.specs.declared.claims.Claims.{Claims}
 use Rattle.unit.specs.declared.phase.Phase as states
 use Rattle.unit.specs.declared.phase.Phase.TheVariants.{Idle, Standing, InRound}

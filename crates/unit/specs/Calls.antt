@@ -1,5 +1,5 @@
 -- What calls on a unit answer.
-use Rattle.std.specs.Prelude.{◌≡◌, ℕ, Bool, false, List, [], ◌∷◌, ◌++◌, length, nat_le, Some, None, Ok, Err, Option, Result}
+use Rattle.std.specs.Prelude.{◌≡◌, ℕ, false, List, [], ◌∷◌, ◌++◌, length, nat_le, Some, None, Ok, Err, Option, Result}
 use Rattle.model.specs.Rows.{listed}
 use Rattle.unit.specs.Claims.{claim_of}
 use Rattle.unit.specs.declared.claims.Claim as claims

@@ -1,5 +1,5 @@
 -- What every unit keeps from the call that made it on.
-use Rattle.std.specs.Prelude.{◌≡◌, ℕ, ◌≤◌, Bool, false, List, replicate, slice_get, Some, None, Option}
+use Rattle.std.specs.Prelude.{◌≡◌, ℕ, ◌≤◌, false, List, replicate, slice_get, Some, None, Option}
 use Rattle.model.specs.Meanings.{OutlineFacts, Meaning}
 use Rattle.model.specs.Rows.{listed}
 use Rattle.sealing.specs.Orders.{atom_order}

@@ -1,7 +1,6 @@
 use Rattle.std.proofs.Common.{rules, is_some, ◌∙◌}
-use Rattle.expression.proofs.Sight.{seen_same}
 use Rattle.units.specs.Units.{claim_sight}
-use Rattle.unit.proofs.Reading.{variables_only}
+use Rattle.unit.proofs.Reading.{seen_same, variables_only}
 use Rattle.unit.proofs.claims.claim_names.Goals as goal
 
 pub returns : goal.returns

@@ -1,6 +1,6 @@
 use Rattle.std.proofs.Common.{sym, ap, ◌∙◌, subst}
 use Rattle.sealing.specs.Orders.{AtomsInOrder}
-use Rattle.language.specs.ExpressionLaws.{none_some}
+use Rattle.language.specs.laws.Expressions.{none_some}
 use Rattle.unit.proofs.Sealing.{no_circle, kept_fit, kept_unfit}
 use Rattle.unit.proofs.state.UnitState.new.Goals as goal
 use Rattle.unit.proofs.state.UnitState.new.Goals.{in-None, in-Some}
