@@ -3,10 +3,12 @@ pub mod AtomRows
 pub mod Equalities
 pub mod Held
 pub mod Judged
+pub mod Places
 pub mod Promised
 pub mod Rows
 pub mod SetItems
 pub mod Standing
+pub mod TableRows
 pub mod Told
 pub mod Values
 pub mod VariableRows

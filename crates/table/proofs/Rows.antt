@@ -1,5 +1,5 @@
 -- Parts that are read one after the other.
-use Rattle.std.proofs.Common.{◌≡◌, ℕ, zero, suc, ◌+◌, ◌-◌, ◌<◌, List, [], ◌∷◌, ◌++◌, length, Ok, Err, Result, subst, sym, refl, ap, ◌∙◌, append_assoc, append-nil, arith, length-append}
+use Rattle.std.proofs.Common.{◌≡◌, ℕ, zero, suc, ◌+◌, ◌-◌, ◌<◌, List, [], ◌∷◌, ◌++◌, length, take, Ok, Err, Result, subst, sym, refl, ap, ◌∙◌, append_assoc, append-nil, arith, length-append}
 use Rattle.std.specs.List.{slice_get}
 use Rattle.language.proofs.Steps.{many_none as no_more, many_more as one_more}
 use Rattle.language.specs.Tables.{Step, fine, wrong, short, and_then, many}
@@ -88,30 +88,30 @@ module _ {X : Type 0} {read : List ℕ → ℕ → Step X} {first : Reader} {cou
 
 -- ---- what is made of them
 
-pub reads_more : {X R : Type 0} {P : X → R → Type 0} {read : List ℕ → ℕ → Step X} {first : Reader} {count i : ℕ} {now next : Reader} {Q : List X → Type 0} {r : R} (f : SoFar read first count i now Q) (Q' : List X → Type 0) → i < count → Reads P read now next (Ok r) → ((x : X) → P x r → Q f.made → Q' (f.made ++ x ∷ [])) → SoFar read first count (i + 1) next Q'
-reads_more {first} f Q' l p step = let got = reads_from first f.same p in many_more f Q' got.part l p.same got.read (step got.part got.made)
+pub reads_more : {X R : Type 0} {P : X → R → Type 0} {read : List ℕ → ℕ → Step X} {first : Reader} {count i : ℕ} {now next : Reader} {Q : List X → Type 0} {r : R} (f : SoFar read first count i now Q) (Q' : List X → Type 0) → i < count → Reads P read now next (Ok r) → ((x : X) → read first.bytes.now now.place ≡ fine x next.place → P x r → Q f.made → Q' (f.made ++ x ∷ [])) → SoFar read first count (i + 1) next Q'
+reads_more {first} f Q' l p step = let got = reads_from first f.same p in many_more f Q' got.part l p.same got.read (step got.part got.read got.made)
 
-pub each_none : {X R : Type 0} {P : X → R → Type 0} → Each P [] []
+pub each_none : {X R : Type 0} {P : List X → X → R → Type 0} → Each P [] []
 each_none = record { counted = refl; each = λ k. tt }
 
-pub each_more : {X R : Type 0} {P : X → R → Type 0} (xs : List X) (rs : List R) (x : X) (r : R) → Each P xs rs → P x r → Each P (xs ++ x ∷ []) (rs ++ r ∷ [])
+pub each_more : {X R : Type 0} {P : List X → X → R → Type 0} (xs : List X) (rs : List R) (x : X) (r : R) → Each P xs rs → P xs x r → Each P (xs ++ x ∷ []) (rs ++ r ∷ [])
 each_more {P} [] [] x r f p = record { counted = refl; each = go }
   where
-    go : (k : ℕ) → Paired P (slice_get (x ∷ []) k) (slice_get (r ∷ []) k)
+    go : (k : ℕ) → Paired (P (take k (x ∷ []))) (slice_get (x ∷ []) k) (slice_get (r ∷ []) k)
     go zero = p
     go (suc k) = tt
 each_more [] (s ∷ rs) x r f p = absurd (omega (arith, f.counted))
 each_more (y ∷ xs) [] x r f p = absurd (omega (arith, f.counted))
-each_more {X} {R} {P} (y ∷ xs) (s ∷ rs) x r f p = go (each_more xs rs x r (record { counted = omega (arith, f.counted); each = λ k. f.each (suc k) }) p)
+each_more {X} {R} {P} (y ∷ xs) (s ∷ rs) x r f p = go (each_more {P = λ before. P (y ∷ before)} xs rs x r (record { counted = omega (arith, f.counted); each = λ k. f.each (suc k) }) p)
   where
-    go : Each P (xs ++ x ∷ []) (rs ++ r ∷ []) → Each P (y ∷ (xs ++ x ∷ [])) (s ∷ (rs ++ r ∷ []))
+    go : Each (λ before. P (y ∷ before)) (xs ++ x ∷ []) (rs ++ r ∷ []) → Each P (y ∷ (xs ++ x ∷ [])) (s ∷ (rs ++ r ∷ []))
     go rest = record { counted = ap suc rest.counted; each = at rest }
       where
-        at : Each P (xs ++ x ∷ []) (rs ++ r ∷ []) → (k : ℕ) → Paired P (slice_get (y ∷ (xs ++ x ∷ [])) k) (slice_get (s ∷ (rs ++ r ∷ [])) k)
+        at : Each (λ before. P (y ∷ before)) (xs ++ x ∷ []) (rs ++ r ∷ []) → (k : ℕ) → Paired (P (take k (y ∷ (xs ++ x ∷ [])))) (slice_get (y ∷ (xs ++ x ∷ [])) k) (slice_get (s ∷ (rs ++ r ∷ [])) k)
         at rest zero = f.each 0
         at rest (suc k) = rest.each k
 
-pub each_pushed : {X R : Type 0} {P : X → R → Type 0} (n : ℕ) {xs : List X} {before after : List R} {x : X} {r : R} {result : Result (Unit {0}) Full} → Each P xs before → Pushed n before r after result → result ≡ Ok tt → P x r → Each P (xs ++ x ∷ []) after
+pub each_pushed : {X R : Type 0} {P : List X → X → R → Type 0} (n : ℕ) {xs : List X} {before after : List R} {x : X} {r : R} {result : Result (Unit {0}) Full} → Each P xs before → Pushed n before r after result → result ≡ Ok tt → P xs x r → Each P (xs ++ x ∷ []) after
 each_pushed {P} n {xs} {before} {after} {x} {r} {result} f pushed e p = go result e pushed
   where
     go : (o : Result (Unit {0}) Full) → o ≡ Ok tt → Pushed n before r after o → Each P (xs ++ x ∷ []) after

@@ -1,6 +1,6 @@
 -- What an opens_as table tells is what its bytes say.
 use Rattle.model.specs.Tests.{count}
-use Rattle.std.proofs.Common.{Bor, ◌≡◌, ℕ, zero, suc, ◌+◌, ◌<◌, ◌≤◌, Bool, true, List, [], length, get_or, Some, None, Ok, Err, Option, Result, sym, refl, ap, ◌∙◌, subst, arith}
+use Rattle.std.proofs.Common.{Bor, ◌≡◌, ℕ, zero, suc, ◌+◌, ◌<◌, ◌≤◌, Bool, true, List, [], length, take, get_or, Some, None, Ok, Err, Option, Result, sym, refl, ap, ◌∙◌, subst, arith}
 use mathlib.Core.Logic.{∥∥₁_elim, ∥∥₁_map}
 use mathlib.Core.Path.{fun_ext}
 use native.Mathlib.Bridge.{le_prop}
@@ -10,7 +10,8 @@ use Rattle.std.proofs.lemmas.Bool.Decides.{nat_tests}
 use Rattle.std.proofs.lemmas.Option.{slice_get-get_or, slice_get_past}
 use Rattle.std.proofs.lemmas.Bool.{false≢true}
 use Rattle.std.specs.List.{slice_get}
-use Rattle.std.specs.Option.{option_copied}
+use Rattle.std.specs.Coded.{coded_option}
+use Rattle.std.specs.Option.{option_copied, option_map}
 use Rattle.std.specs.Result.{result_copied, result_err, result_ok}
 use Rattle.std.specs.Slice.{IsItemAt}
 use Rattle.model.specs.Rows.{listed}
@@ -24,6 +25,7 @@ use Rattle.language.specs.laws.Expressions.{none_some}
 use Rattle.language.specs.Meanings.{table_meaning}
 use Rattle.language.specs.Tables.{TableAtom, TableChoice, bit, size, Opening, opens_as, breaks, opening_of, fault_of, syntax_of, table_fault, table_of, in_set, choices_in, numbers_of, seen_in}
 use Rattle.table.specs.Laid.{Laid, AtomLaid, ChoiceLaid, ChoicesLaid}
+use Rattle.table.specs.Places.{atom_start, choice_place, choice_start, choices_end, first_choice}
 use Rattle.table.specs.Rows.{Paired}
 use Rattle.table.specs.Variables.{at}
 use Rattle.table.specs.declared.parts.AtomLayout.{AtomLayout}
@@ -50,10 +52,10 @@ module _ (t : Table) where
   is_table : (l : Layout) (w : Opens (contents t) l) → w.table ≡ table_of (contents t)
   is_table l w = sym (ap syntax_of w.is)
 
-  laid : (l : Layout) → Opens (contents t) l → Laid (contents t) (table_of (contents t)) l
-  laid l w = subst (λ s. Laid (contents t) s l) (is_table l w) w.laid
+  laid : (l : Layout) → Opens (contents t) l → Laid (contents t) 0 (table_of (contents t)) l
+  laid l w = subst (λ s. Laid (contents t) 0 s l) (is_table l w) w.laid
 
-  pub atom_at : (l : Layout) → t.found ≡ Ok l → (i : ℕ) → ∥ AtomFound (contents t) (atom_of t i) (slice_get (listed l.atoms) i) ∥₁
+  pub atom_at : (l : Layout) → t.found ≡ Ok l → (i : ℕ) → ∥ AtomFound (contents t) (atom_start (table_of (contents t)) i) (atom_of t i) (slice_get (listed l.atoms) i) ∥₁
   atom_at l e i = ∥∥₁_map (whole l e) (λ w. (laid l w).atoms.each i)
 
 -- ---- the outline
@@ -90,10 +92,10 @@ module _ (t : Table) (l : Layout) (e : Some l ≡ result_ok t.found) where
   pub variable_told : (n : ℕ) → at l.variables n ≡ variable_of t n
   variable_told n = variable_at_name t l (found_ok t.found l e) n
 
-  pub atom_told : (xs : List AtomLayout) (i : ℕ) (r : Option (Bor AtomLayout)) → xs ≡ listed l.atoms → IsItemAt xs i r → ∥ AtomFound (contents t) (atom_of t i) (option_copied r) ∥₁
+  pub atom_told : (xs : List AtomLayout) (i : ℕ) (r : Option (Bor AtomLayout)) → xs ≡ listed l.atoms → IsItemAt xs i r → ∥ AtomFound (contents t) (atom_start (table_of (contents t)) i) (atom_of t i) (option_copied r) ∥₁
   atom_told xs i r same h =
       let is : option_copied r ≡ slice_get (listed l.atoms) i = item_at xs i r h ∙ ap (λ ys. slice_get ys i) same in
-      subst (λ o. ∥ AtomFound (contents t) (atom_of t i) o ∥₁) (sym is) (atom_at t l (found_ok t.found l e) i)
+      subst (λ o. ∥ AtomFound (contents t) (atom_start (table_of (contents t)) i) (atom_of t i) o ∥₁) (sym is) (atom_at t l (found_ok t.found l e) i)
 
 -- ---- an atom's choices
 
@@ -104,33 +106,56 @@ atom_short bs i a e = go (opening_of bs) refl e
     go (opens_as s) is e = opened_short bs s is
     go (breaks rule place) is e = none_some a e
 
-choices_laid : (bs : List ℕ) (a : TableAtom) (l : AtomLayout) (r : Round) → AtomLaid bs a l → ChoicesLaid bs (seen_in r a.reads a.awaits) (size a.controls) (choices_in r (Some a)) (layout_in r l)
-choices_laid bs a l Initial h = h.initial
-choices_laid bs a l Update h = h.update
+choices_laid : (bs : List ℕ) (start : ℕ) (a : TableAtom) (l : AtomLayout) (r : Round) → AtomLaid bs start a l → ChoicesLaid bs (first_choice r start a) (seen_in r a.reads a.awaits) (size a.controls) (choices_in r (Some a)) (layout_in r l)
+choices_laid bs start a l Initial h = h.initial
+choices_laid bs start a l Update h = h.update
 
-module _ (t : Table) (i : ℕ) (l : AtomLayout) (found : ∥ AtomFound (contents t) (atom_of t i) (Some l) ∥₁) (r : Round) where
-  by_atom : (P : Option TableAtom → Type 0) → ((o : Option TableAtom) → IsProp (P o)) → ((a : TableAtom) → slice_get (table_of (contents t)).atoms i ≡ Some a → AtomLaid (contents t) a l → P (Some a)) → P (atom_of t i)
+module _ (t : Table) (i : ℕ) (l : AtomLayout) (found : ∥ AtomFound (contents t) (atom_start (table_of (contents t)) i) (atom_of t i) (Some l) ∥₁) (r : Round) where
+  by_atom : (P : Option TableAtom → Type 0) → ((o : Option TableAtom) → IsProp (P o)) → ((a : TableAtom) → slice_get (table_of (contents t)).atoms i ≡ Some a → AtomLaid (contents t) (atom_start (table_of (contents t)) i) a l → P (Some a)) → P (atom_of t i)
   by_atom P prop each = go (atom_of t i) refl found
     where
-      go : (o : Option TableAtom) → atom_of t i ≡ o → ∥ AtomFound (contents t) o (Some l) ∥₁ → P o
+      go : (o : Option TableAtom) → atom_of t i ≡ o → ∥ AtomFound (contents t) (atom_start (table_of (contents t)) i) o (Some l) ∥₁ → P o
       go (Some a) is h = ∥∥₁_elim h (prop (Some a)) (λ x. each a is x)
       go None is h = ∥∥₁_elim h (prop None) (λ x. absurd x)
 
   pub choice_at : (k : ℕ) → ∥ ChoiceFound (contents t) (controlled (atom_of t i)) (choice_of t r i k) (slice_get (listed (layout_in r l)) k) ∥₁
   choice_at k =
       by_atom (λ o. ∥ ChoiceFound (contents t) (controlled o) (slice_get (choices_in r o) k) (slice_get (listed (layout_in r l)) k) ∥₁) (λ o. ∥∥₁_prop)
-      (λ a is h. ∣ stand a is (slice_get (choices_in r (Some a)) k) (slice_get (listed (layout_in r l)) k) ((choices_laid (contents t) a l r h).each k) ∣₁)
+      (λ a is h. ∣ stand a is (slice_get (choices_in r (Some a)) k) (slice_get (listed (layout_in r l)) k) ((choices_laid (contents t) (atom_start (table_of (contents t)) i) a l r h).each k) ∣₁)
     where
-      stand : (a : TableAtom) → slice_get (table_of (contents t)).atoms i ≡ Some a → (c : Option TableChoice) (p : Option ℕ) → Paired (ChoiceLaid (contents t) (seen_in r a.reads a.awaits) (size a.controls)) c p → ChoiceFound (contents t) (size a.controls) c p
+      stand : (a : TableAtom) → slice_get (table_of (contents t)).atoms i ≡ Some a → (c : Option TableChoice) (p : Option ℕ) → Paired (ChoiceLaid (contents t) (first_choice r (atom_start (table_of (contents t)) i) a) (seen_in r a.reads a.awaits) (size a.controls) (take k (choices_in r (Some a)))) c p → ChoiceFound (contents t) (size a.controls) c p
       stand a is (Some c) (Some place) laid = choice_stands (seen_in r a.reads a.awaits) (size a.controls) (contents t) place c laid.end (atom_short (contents t) i a is) laid.read
       stand a is None None laid = tt
       stand a is (Some c) None laid = laid
       stand a is None (Some place) laid = laid
 
+  -- where the choice begins
+  pub place_at : (k : ℕ) → slice_get (listed (layout_in r l)) k ≡ choice_start r (atom_start (table_of (contents t)) i) (atom_of t i) k
+  place_at k =
+      by_atom (λ o. slice_get (listed (layout_in r l)) k ≡ choice_start r (atom_start (table_of (contents t)) i) o k) (λ o. Coded-set (coded_option coded_ℕ) _ _)
+      (λ a is h. begins a (slice_get (choices_in r (Some a)) k) (slice_get (listed (layout_in r l)) k) ((choices_laid (contents t) (atom_start (table_of (contents t)) i) a l r h).each k))
+    where
+      begins : (a : TableAtom) (c : Option TableChoice) (p : Option ℕ) → Paired (ChoiceLaid (contents t) (first_choice r (atom_start (table_of (contents t)) i) a) (seen_in r a.reads a.awaits) (size a.controls) (take k (choices_in r (Some a)))) c p → p ≡ option_map (λ _. choices_end (first_choice r (atom_start (table_of (contents t)) i) a) (take k (choices_in r (Some a)))) c
+      begins a (Some c) (Some place) laid = ap Some laid.begins
+      begins a None None laid = refl
+      begins a (Some c) None laid = absurd laid
+      begins a None (Some place) laid = absurd laid
+
+  pub place_told : (xs : List ℕ) (k : ℕ) (r' : Option (Bor ℕ)) (p : Option ℕ) → xs ≡ listed (layout_in r l) → IsItemAt xs k r' → p ≡ option_copied r' → p ≡ choice_place (table_of (contents t)) r i k
+  place_told xs k r' p same h e = e ∙ item_at xs k r' h ∙ ap (λ ys. slice_get ys k) same ∙ place_at k
+
   pub choice_told : (xs : List ℕ) (k : ℕ) (r' : Option (Bor ℕ)) (p : Option ℕ) → xs ≡ listed (layout_in r l) → IsItemAt xs k r' → p ≡ option_copied r' → ∥ ChoiceFound (contents t) (controlled (atom_of t i)) (choice_of t r i k) p ∥₁
   choice_told xs k r' p same h e =
       let is : p ≡ slice_get (listed (layout_in r l)) k = e ∙ item_at xs k r' h ∙ ap (λ ys. slice_get ys k) same in
       subst (λ o. ∥ ChoiceFound (contents t) (controlled (atom_of t i)) (choice_of t r i k) o ∥₁) (sym is) (choice_at k)
+
+-- an atom that is not there has no choice that begins anywhere
+pub place_none_told : (t : Table) (r : Round) (i k : ℕ) → ∥ AtomFound (contents t) (atom_start (table_of (contents t)) i) (atom_of t i) None ∥₁ → None ≡ choice_place (table_of (contents t)) r i k
+place_none_told t r i k found = go (atom_of t i) found
+  where
+    go : (o : Option TableAtom) → ∥ AtomFound (contents t) (atom_start (table_of (contents t)) i) o None ∥₁ → None ≡ choice_start r (atom_start (table_of (contents t)) i) o k
+    go None h = refl
+    go (Some a) h = ∥∥₁_elim h (Coded-set (coded_option coded_ℕ) _ _) (λ x. absurd x)
 
 -- ---- a choice's items
 

@@ -11,9 +11,9 @@ use Rattle.table.specs.Rows.{Paired}
 use Rattle.table.specs.declared.parts.AtomLayout.{AtomLayout}
 use Rattle.table.specs.Items.{after_item, item_bytes, item_place}
 
--- the atom, if there is one, lies so
-abbrev pub AtomFound : List ℕ → Option TableAtom → Option AtomLayout → Type 0
-AtomFound bs = Paired (AtomLaid bs)
+-- the atom, if there is one, begins at `start` and lies so
+abbrev pub AtomFound : List ℕ → ℕ → Option TableAtom → Option AtomLayout → Type 0
+AtomFound bs start = Paired (AtomLaid bs start)
 
 abbrev pub layout_in : Round → AtomLayout → Row ℕ 8
 layout_in Initial l = l.initial

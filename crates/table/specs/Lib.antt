@@ -4,6 +4,7 @@ pub mod Expressions
 pub mod Items
 pub mod Kept
 pub mod Laid
+pub mod Places
 pub mod Promises
 pub mod Read
 pub mod Reads

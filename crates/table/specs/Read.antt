@@ -9,7 +9,7 @@ use Rattle.table.specs.declared.parts.Layout.{Layout}
 pub record Opens (bs : List ℕ) (l : Layout) : Type 0 where
   pub table : TableSyntax
   pub is : opening_of bs ≡ opens_as table
-  pub laid : Laid bs table l
+  pub laid : Laid bs 0 table l
 
 -- A layout is answered where the bytes are a table, and is that table's; else their first fault, by its number and place.
 abbrev pub Read : List ℕ → Result Layout Fault → Type 0

@@ -42,7 +42,7 @@ fn no_atom() -> AtomLayout
 
 impl Reader<'_> {
     fn atom(&mut self, variables: &Variables) -> Result<AtomLayout, Fault>
-        ensures { (vs : List TableVariable) → VariablesLaid vs variables.now → Reads (AtomLaid self.old.bytes.now) (read_atom vs) self.old self.new result }
+        ensures { (vs : List TableVariable) → VariablesLaid vs variables.now → Reads (AtomLaid self.old.bytes.now self.old.place) (read_atom vs) self.old self.new result }
     {
         let controls = self.set(|names| are_own(variables, names))?;
         let reads = self.set(|names| are_known(variables, names))?;
@@ -68,7 +68,7 @@ impl Reader<'_> {
     /// to tell of each call in turn, and is longer than what it saves the two that fill one.
     pub fn atoms(&mut self, variables: &Variables, count: u8) -> Result<Row<AtomLayout, 16>, Fault>
         requires { count ≤ 16 }
-        ensures { (vs : List TableVariable) → VariablesLaid vs variables.now → Reads (AtomsLaid self.old.bytes.now) (many (read_atom vs) count) self.old self.new result }
+        ensures { (vs : List TableVariable) → VariablesLaid vs variables.now → Reads (AtomsLaid self.old.bytes.now self.old.place) (many (read_atom vs) count) self.old self.new result }
     {
         let mut atoms = Row::empty(no_atom());
         for _ in 0..count {

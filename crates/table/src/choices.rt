@@ -42,7 +42,7 @@ impl Reader<'_> {
     /// Where so many choices begin.
     pub fn choices(&mut self, seen: &Seen, controlled: u8, count: u8) -> Result<Places, Fault>
         requires { count ≤ 8 }
-        ensures { Reads (ChoicesLaid self.old.bytes.now (seen_of seen.now) controlled) (many (read_choice (seen_of seen.now) controlled) count) self.old self.new result }
+        ensures { Reads (ChoicesLaid self.old.bytes.now self.old.place (seen_of seen.now) controlled) (many (read_choice (seen_of seen.now) controlled) count) self.old self.new result }
     {
         let mut places = Row::empty(0);
         for _ in 0..count {

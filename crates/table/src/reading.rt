@@ -12,7 +12,7 @@ use model::Fault;
 impl Reader<'_> {
     #[tactic(auto, unfolding(language::specs::Tables::read_table))]
     fn table(&mut self) -> Result<Layout, Fault>
-        ensures { Reads (Laid self.old.bytes.now) read_table self.old self.new result }
+        ensures { Reads (Laid self.old.bytes.now self.old.place) read_table self.old self.new result }
     {
         let width = self.byte_between(Rule::WrongVariable, 0, 32)?;
         let variables = self.variables(width)?;

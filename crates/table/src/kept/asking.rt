@@ -3,6 +3,8 @@ ghost use Rattle.std.specs.Prelude.{◌≡◌, ◌≤◌, length};
 ghost use Rattle.std.specs.Option.{option_copied};
 ghost use Rattle.std.specs.Result.{result_ok};
 ghost use Rattle.table.specs.Asked.{AtomFound, ChoiceFound, layout_in, controlled};
+ghost use Rattle.language.specs.Tables.{table_of};
+ghost use Rattle.table.specs.Places.{atom_start, choice_place};
 ghost use Rattle.table.specs.Kept.{contents, variable_of, atom_of, choice_of, guard_form, number_bytes_of};
 
 use super::Table;
@@ -34,14 +36,15 @@ impl Table {
     }
 
     pub fn atom(&self, atom: u8) -> Option<&AtomLayout>
-        ensures { ∥ AtomFound (contents self.now) (atom_of self.now atom) (option_copied result) ∥₁ }
+        ensures { let start = atom_start (table_of (contents self.now)) atom in ∥ AtomFound (contents self.now) start (atom_of self.now atom) (option_copied result) ∥₁ }
     {
         self.layout()?.atoms.as_slice().get(atom as usize)
     }
 
     // The place of the choice among the bytes.
     fn place(&self, round: Round, atom: u8, choice: u8) -> Option<u16>
-        ensures { ∥ ChoiceFound (contents self.now) (controlled (atom_of self.now atom)) (choice_of self.now round atom choice) result ∥₁ }
+        ensures begins { result ≡ choice_place (table_of (contents self.now)) round atom choice }
+        ensures stands { ∥ ChoiceFound (contents self.now) (controlled (atom_of self.now atom)) (choice_of self.now round atom choice) result ∥₁ }
     {
         let places = in_round(self.atom(atom)?, round);
         places.as_slice().get(choice as usize).copied()
