@@ -1,10 +1,14 @@
 //! Tables, gate lists and expressions as bytes.
+ghost use Rattle.samples.specs.Bytes.{inverter_record, sum_form, toggle_from};
+ghost use Rattle.std.specs.Prelude.{◌≡◌, ◌++◌, OnOk};
+
 use std::alloc::AllocError;
-use std::iter::repeat_n;
 
 /// A table of one variable, the interface bit 0, and one atom that controls and reads it: it starts at 0, and an update takes its
 /// old value from this number.
-pub fn toggle(from: u8) -> [u8; 32] {
+pub fn toggle(from: u8) -> [u8; 32]
+    ensures { result ≡ toggle_from from }
+{
     let mut bytes = TOGGLE;
     bytes[29] = from;
     bytes
@@ -17,19 +21,24 @@ pub const TOGGLE: [u8; 32] = [
 ];
 
 /// The record of a NOT gate, which by itself is a gate list.
-pub fn inverter(a: u8, out: u8) -> [u8; 5] {
+pub fn inverter(a: u8, out: u8) -> [u8; 5]
+    ensures { result ≡ inverter_record a out }
+{
     [0, a, 255, out, 255]
 }
 
 /// A gate list whose second record has no kind: fault 18 at byte 5.
 pub const FAULTY: [u8; 10] = [0, 0, 255, 1, 255, 7, 0, 255, 2, 255];
 
-/// A sum of so many times 255, a power of two, that nests as little as it can: 3 n - 1 bytes.
-pub fn push_sum(bytes: &mut Vec<u8>, count: u32) -> Result<(), AllocError> {
-    for leaf in 0..count {
-        bytes.extend(repeat_n(3, (leaf | count).trailing_zeros() as usize))?;
-        bytes.push(0)?;
-        bytes.push(255)?;
+/// Adds the bytes of a sum that halves so many times, down to the constant 255: with n halvings 2 ^ n times 255, in 3 · 2 ^ n − 1 bytes.
+pub fn push_sum(bytes: &mut Vec<u8>, halvings: u8) -> Result<(), AllocError>
+    ensures { OnOk result (bytes.new.items ≡ bytes.old.items ++ sum_form halvings) }
+{
+    if halvings == 0 {
+        return bytes.extend_from_slice(&[0, 255]);
     }
+    bytes.push(3)?;
+    push_sum(bytes, halvings - 1)?;
+    push_sum(bytes, halvings - 1)?;
     Ok(())
 }
