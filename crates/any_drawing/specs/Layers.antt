@@ -4,7 +4,7 @@ use Rattle.model.specs.Meanings.{OutlineFacts, ChoiceFacts}
 use Rattle.composition.specs.Acts.{acts_with, renamed_choices, joined_choices}
 use Rattle.composition.specs.Outlines.{outline_with, renamed_tables, hidden_tables, joined_tables}
 use Rattle.gates.specs.GateLists.{meaning_of as gates_meaning}
-use Rattle.table.specs.Kept.{meaning_of as table_meaning}
+use Rattle.table.specs.Table.{meaning_of as table_meaning}
 use Rattle.any_drawing.specs.Piles.{Pile, pile_meaning, pile_outline, height}
 use Rattle.any_drawing.specs.declared.tree.layer.Layer.{Layer}
 use Rattle.any_drawing.specs.declared.tree.layer.Layer.TheVariants.{Faulty, Table, Gates, Join, Rename, Hide}

@@ -8,9 +8,9 @@ use Rattle.gates.specs.GateLists.{netlist_of}
 use Rattle.gates.specs.declared.list.GateList.{GateList}
 use Rattle.language.specs.Tables.{table_of, table_outline, table_acts}
 use Rattle.model.specs.Meanings.{Meaning}
-use Rattle.table.specs.Kept.{meaning_of}
+use Rattle.table.specs.Table.{meaning_of}
 use Rattle.table.specs.Promises.{OpensAsWritten}
-use Rattle.table.specs.declared.kept.Table.{Table}
+use Rattle.table.specs.declared.table.Table.{Table}
 
 -- m means the gate list that the bytes describe, kept opened
 pub record MeansGates (bytes : List ℕ) (m : Meaning) : Type 0 where

@@ -4,7 +4,7 @@ use Rattle.std.specs.Prelude.{◌≡◌}
 use Rattle.std.proofs.Common.{ap, arith}
 use Rattle.any_drawing.specs.Piles.{Pile, OfTable, OfGates, Joined, Renamed, Hidden}
 use Rattle.gates.specs.contracts.list.GateList as gates
-use Rattle.table.specs.contracts.kept.Table as tables
+use Rattle.table.specs.contracts.table.Table as tables
 
 abbrev first : Gv → Gv
 first gnil = gnil

@@ -5,8 +5,8 @@ use Rattle.composition.specs.Meanings.{renamed, hidden, joined}
 use Rattle.gates.specs.GateLists.{meaning_of as gates_meaning}
 use Rattle.gates.specs.declared.list.GateList.{GateList}
 use Rattle.model.specs.Meanings.{OutlineFacts, Meaning}
-use Rattle.table.specs.Kept.{meaning_of as table_meaning}
-use Rattle.table.specs.declared.kept.Table.{Table}
+use Rattle.table.specs.Table.{meaning_of as table_meaning}
+use Rattle.table.specs.declared.table.Table.{Table}
 
 pub data Pile : Type 0 where
   OfTable : Table → Pile

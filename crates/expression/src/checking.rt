@@ -15,9 +15,8 @@ pub struct Seen {
     pub new: Names,
 }
 
-// Bytes that are read as an expression, and the names that it may use. Numbers and truths have a function each, here as in the
-// evaluator: their operators and what follows these differ, and one function would take the reading as a closure, which needs
-// a clause of its own in a cycle and is longer than the two calls.
+// Bytes that are read as an expression, and the names that it may use. Numbers and truths have a function each, since their
+// operators differ, and what follows these.
 #[derive(Clone, Copy)]
 struct Checker<'a> {
     bytes: &'a [u8],

@@ -1,5 +1,5 @@
-//! What expressions are worth at old and new values. Each function makes its evaluator, at values of which it knows that they are
-//! bytes: one that made it for both would be passed references, where that is not known and would be required (tried).
+//! What expressions are worth at old and new values. Each function makes its own evaluator: of values that it is passed it knows
+//! that they are bytes.
 ghost use Rattle.std.specs.Prelude.{◌≡◌};
 ghost use Rattle.expression.specs.Evaluation.{evaluated_number, evaluated_truth, NumberEvaluated, TruthEvaluated};
 

@@ -1,7 +1,7 @@
 //! The operators of expressions, each by its byte.
 ghost use Rattle.expression.specs.Operators.{number_operator_of, number_meant, truth_operator_of, truth_meant, StandsFor};
 ghost use Rattle.language.specs.Expressions.{byte_at, judged, number_operator, truth_operator};
-ghost use Rattle.std.specs.Prelude.{◌≡◌};
+ghost use Rattle.std.specs.Prelude.{◌≡◌, Some, codes};
 
 use std::error::Error;
 use std::fmt;
@@ -35,6 +35,8 @@ pub enum TruthOperator {
 pub struct NoOperator;
 
 impl fmt::Display for NoOperator {
+    ghost output = { λ _. Some (codes "the byte is no such operator") };
+
     fn fmt<W: fmt::Write>(&self, f: &mut fmt::Formatter<W>) -> fmt::Result {
         f.write_str("the byte is no such operator")
     }
@@ -42,6 +44,7 @@ impl fmt::Display for NoOperator {
 
 impl Error for NoOperator {}
 
+/// The byte at this place, if there is one.
 pub fn byte_at(bytes: &[u8], place: usize) -> Option<u8>
     ensures { result ≡ byte_at bytes.now place }
 {
@@ -66,8 +69,7 @@ impl TryFrom<u8> for NumberOperator {
 }
 
 impl NumberOperator {
-    /// As for truths. One `operator_at<O: TryFrom<u8, Error = NoOperator>>` that both call is proved (tried), but is twelve lines
-    /// longer with its contract over that of O's `try_from`: each kind keeps an `at`, to say what its operators mean.
+    /// The operator that stands at this place, if one does.
     pub fn at(bytes: &[u8], place: usize) -> Option<NumberOperator>
         ensures { number_meant result ≡ judged number_operator (byte_at bytes.now place) }
     {
@@ -94,6 +96,7 @@ impl TryFrom<u8> for TruthOperator {
 }
 
 impl TruthOperator {
+    /// The operator that stands at this place, if one does.
     pub fn at(bytes: &[u8], place: usize) -> Option<TruthOperator>
         ensures { truth_meant result ≡ judged truth_operator (byte_at bytes.now place) }
     {

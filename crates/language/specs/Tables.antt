@@ -1,4 +1,4 @@
--- Byte tables: what they say, how they are written, how they are opens_as, and what they mean.
+-- Byte tables: what they say, how they are written, how they are opened, and what they mean.
 use Rattle.std.specs.Prelude.{◌≡◌, ℕ, zero, suc, ◌+◌, ◌*◌, ◌/◌, ◌%◌, ◌^◌, ◌<◌, ◌≤◌, Bool, true, false, cond, ◌&&◌, List, [], ◌∷◌, ◌++◌, length, take, drop, ℤ, pos, is_some, Some, None, Option, ◌==◌, nat_le, nat_lt}
 use Rattle.std.specs.List.{flat_map, AllByRecursion, slice_get}
 use Rattle.model.specs.Meanings.{Valuation, OutlineFacts, ChoiceFacts, most_choices}

@@ -8,9 +8,9 @@ use Rattle.language.specs.Tables.{TableSyntax, Opening, opens_as, breaks, fault_
 use Rattle.language.specs.declared.rules.Rule.{Rule}
 use Rattle.language.specs.declared.rules.Rule.TheVariants.{TooManyBytes, BytesMissing, WrongVariable, WrongAtom, WrongExpression, BytesLeftOver}
 use Rattle.language.specs.laws.Expressions.{none_some}
-use Rattle.table.specs.Kept.{contents, meaning_of}
+use Rattle.table.specs.Table.{contents, meaning_of}
 use Rattle.table.specs.Promises.{Means, SoleTable, IsBroken, IsOfRule, OpensAsWritten}
-use Rattle.table.specs.declared.kept.Table.{Table}
+use Rattle.table.specs.declared.table.Table.{Table}
 
 -- the rule of this number
 numbered : ℕ → Rule

@@ -6,7 +6,7 @@ use Rattle.language.specs.Tables.{Step, fine, wrong, short, and_then, many}
 use Rattle.model.specs.Rows.{Pushed}
 use Rattle.model.specs.declared.Fault.{Fault}
 use Rattle.model.specs.declared.row.Full.{Full}
-use Rattle.table.specs.Reads.{end_told, Passes, Reads}
+use Rattle.table.specs.Reads.{end_of, Passes, Reads}
 use Rattle.table.specs.Rows.{Each, Paired}
 use Rattle.table.specs.declared.reader.Reader.{Reader}
 use Rattle.table.proofs.Answered.{passes_from, reads_from, told_ends, then_stops}
@@ -32,8 +32,8 @@ module _ {X : Type 0} (read : List ℕ → ℕ → Step X) (bs : List ℕ) where
   more_left : (n m k : ℕ) → n ≡ m + 1 → many read n bs k ≡ and_then (read bs k) (λ x next. and_then (many read m bs next) (λ xs end. fine (x ∷ xs) end))
   more_left n m k e = ap (λ i. many read i bs k) e ∙ one_more read m bs k
 
-  many_stops : (all n m k : ℕ) (fault : Fault) → n ≡ m + 1 → end_told all (read bs k) ≡ Err fault → end_told all (many read n bs k) ≡ Err fault
-  many_stops all n m k fault e h = ap (end_told all) (more_left n m k e) ∙ then_stops all (read bs k) _ fault h
+  many_stops : (all n m k : ℕ) (fault : Fault) → n ≡ m + 1 → end_of all (read bs k) ≡ Err fault → end_of all (many read n bs k) ≡ Err fault
+  many_stops all n m k fault e h = ap (end_of all) (more_left n m k e) ∙ then_stops all (read bs k) _ fault h
 
 -- So many of the parts have been read, up to where the reader stands now, and this holds of them.
 pub record SoFar {X : Type 0} (read : List ℕ → ℕ → Step X) (first : Reader) (count i : ℕ) (now : Reader) (Q : List X → Type 0) : Type 0 where
@@ -53,8 +53,8 @@ module _ {X : Type 0} {read : List ℕ → ℕ → Step X} {first : Reader} {cou
   pub many_stop : {next : Reader} {fault : Fault} → i < count → Passes read now next (Err fault) → Passes (many read count) first next (Err fault)
   many_stop {next} {fault} l r =
       let bs = first.bytes.now in let all = length bs in
-      let here : end_told all (many read (count - i) bs now.place) ≡ Err fault = many_stops read bs all (count - i) (count - (i + 1)) now.place fault (omega arith) (sym (passes_from first f.same r)) in
-      record { same = r.same ∙ f.same; told = sym (ap (end_told all) f.ahead ∙ then_stops all (many read (count - i) bs now.place) _ fault here) }
+      let here : end_of all (many read (count - i) bs now.place) ≡ Err fault = many_stops read bs all (count - i) (count - (i + 1)) now.place fault (omega arith) (sym (passes_from first f.same r)) in
+      record { same = r.same ∙ f.same; outcome = sym (ap (end_of all) f.ahead ∙ then_stops all (many read (count - i) bs now.place) _ fault here) }
 
   pub many_more : {next : Reader} (Q' : List X → Type 0) (x : X) → i < count → next.bytes ≡ now.bytes → read first.bytes.now now.place ≡ fine x next.place → (Q f.made → Q' (f.made ++ x ∷ [])) → SoFar read first count (i + 1) next Q'
   many_more {next} Q' x l same e step =
@@ -84,7 +84,7 @@ module _ {X : Type 0} {read : List ℕ → ℕ → Step X} {first : Reader} {cou
       many_more f Q' r.part l p.same r.read (step r.part r.read)
 
   pub passes_all : i ≡ count → Passes (many read count) first now (Ok tt)
-  passes_all e = record { same = f.same; told = sym (ap (end_told (length first.bytes.now)) (many_all f e)) }
+  passes_all e = record { same = f.same; outcome = sym (ap (end_of (length first.bytes.now)) (many_all f e)) }
 
 -- ---- what is made of them
 
@@ -126,4 +126,4 @@ pushed_counts n before after r {result} pushed e = go result e pushed
     go (Err _) e h = cc
 
 pub reads_all : {X R : Type 0} {read : List ℕ → ℕ → Step X} {first : Reader} {count i : ℕ} {now : Reader} {Q : List X → Type 0} {P : List X → R → Type 0} (f : SoFar read first count i now Q) (made : R) → i ≡ count → (Q f.made → P f.made made) → Reads P (many read count) first now (Ok made)
-reads_all f made e step = record { same = f.same; told = record { part = f.made; read = many_all f e; made = step f.holds } }
+reads_all f made e step = record { same = f.same; outcome = record { part = f.made; read = many_all f e; made = step f.holds } }

@@ -11,9 +11,9 @@ use Rattle.model.specs.Sets.{has}
 use Rattle.model.specs.Tests.{every, some, implies, count}
 use Rattle.model.specs.declared.Fault.{Fault}
 use Rattle.model.specs.Sets.{NameSet}
-use Rattle.table.specs.Reads.{end_told, any_word, Tells, Reads}
+use Rattle.table.specs.Reads.{end_of, any_word, Tells, Reads}
 use Rattle.table.specs.Sets.{NamesOf, passes, passes_in}
-use Rattle.table.specs.Variables.{kept, VariablesLaid}
+use Rattle.table.specs.Variables.{kind_and_top, AreVariables}
 use Rattle.table.specs.declared.reader.Reader.{Reader}
 use Rattle.table.specs.declared.variables.Variable.{Variable}
 use Rattle.table.specs.declared.variables.Variables.{Variables}
@@ -30,21 +30,21 @@ some_counted p (suc n) = go (p n) (some_counted p n)
     go false h = let same : count p n ≡ count p n + 0 = omega arith in h ∙ ap (ltb 0) same
 
 -- the tests on names and kinds are those on the number and the variables
-module _ (vs : List TableVariable) (w : ℕ) (variables : Variables) (names : NameSet) (l : VariablesLaid vs variables) (h : NamesOf w names) where
-  pass_same : (p : Variable → Bool) (q : Option TableVariable → Bool) → ((o : Option TableVariable) → passes p (option_map kept o) ≡ q o) → every (passes_in p variables names) 32 ≡ every (λ n. implies (bit w n) (q (variable_at vs n))) 32
+module _ (vs : List TableVariable) (w : ℕ) (variables : Variables) (names : NameSet) (l : AreVariables vs variables) (h : NamesOf w names) where
+  pass_same : (p : Variable → Bool) (q : Option TableVariable → Bool) → ((o : Option TableVariable) → passes p (option_map kind_and_top o) ≡ q o) → every (passes_in p variables names) 32 ≡ every (λ n. implies (bit w n) (q (variable_at vs n))) 32
   pass_same p q same = ap (λ t. every t 32) (fun_ext (λ n. ap₂ implies (h n) (ap (passes p) (l n) ∙ same (variable_at vs n))))
 
   pub known_same : every (passes_in (λ v. true) variables names) 32 ≡ names_variables vs w
   known_same = pass_same (λ v. true) is_some same
     where
-      same : (o : Option TableVariable) → passes (λ v. true) (option_map kept o) ≡ is_some o
+      same : (o : Option TableVariable) → passes (λ v. true) (option_map kind_and_top o) ≡ is_some o
       same None = refl
       same (Some v) = refl
 
   own_same : every (passes_in (λ v. own_kind v.kind) variables names) 32 ≡ every (λ n. implies (bit w n) (is_own (variable_at vs n))) 32
   own_same = pass_same (λ v. own_kind v.kind) is_own same
     where
-      same : (o : Option TableVariable) → passes (λ v. own_kind v.kind) (option_map kept o) ≡ is_own o
+      same : (o : Option TableVariable) → passes (λ v. own_kind v.kind) (option_map kind_and_top o) ≡ is_own o
       same None = refl
       same (Some v) = refl
 
@@ -73,12 +73,12 @@ set_at p bs k w next e = go (word_at bs k) e
 
 module _ {old new : Reader} {w : ℕ} (p : ℕ → Bool) (r : Tells any_word old new (Ok w)) where
   word_at_old : set_item p old.bytes.now old.place ≡ judgement WrongAtom old.place new.place (if_passes p w)
-  word_at_old = set_at p old.bytes.now old.place w new.place (told_fine (length old.bytes.now) (any_word old.bytes.now old.place) w new.place r.told)
+  word_at_old = set_at p old.bytes.now old.place w new.place (told_fine (length old.bytes.now) (any_word old.bytes.now old.place) w new.place r.outcome)
 
   pub set_fine : {names : NameSet} → NamesOf w names → true ≡ p w → Reads NamesOf (set_item p) old new (Ok names)
-  set_fine h t = record { same = r.same; told = record { part = w; read = word_at_old ∙ ap (judgement WrongAtom old.place new.place) (cond-true (p w) (Some w) None (sym t)); made = h } }
+  set_fine h t = record { same = r.same; outcome = record { part = w; read = word_at_old ∙ ap (judgement WrongAtom old.place new.place) (cond-true (p w) (Some w) None (sym t)); made = h } }
 
   pub set_wrong : {fault : Fault} → fault ≡ rule_fault WrongAtom old.place → false ≡ p w → Reads NamesOf (set_item p) old new (Err fault)
   set_wrong {fault} e t =
       let all = length old.bytes.now in
-      record { same = r.same; told = ap (end_told all) (word_at_old ∙ ap (judgement WrongAtom old.place new.place) (cond-false (p w) (Some w) None (sym t))) ∙ ap Err (sym e) }
+      record { same = r.same; outcome = ap (end_of all) (word_at_old ∙ ap (judgement WrongAtom old.place new.place) (cond-false (p w) (Some w) None (sym t))) ∙ ap Err (sym e) }

@@ -12,8 +12,8 @@ use Rattle.language.specs.laws.Expressions.{none_some, nth_inside}
 use Rattle.language.specs.Expressions.{Number, Seen, read_number, read_truth}
 use Rattle.language.specs.laws.Tables.{table_sound}
 use Rattle.language.specs.Tables.{TableVariable, TableAtom, TableChoice, bit, size, seen_in, NumberFits, ChoiceRight, ChoicesRight, AtomRight, table_of, choices_in, choice_opens, numbers_of, value_of, given, atom_gives}
-use Rattle.table.specs.Kept.{contents, atom_of, choice_of, guard_form, number_if, number_for, number_form, number_bytes_of}
-use Rattle.table.specs.declared.kept.Table.{Table}
+use Rattle.table.specs.Table.{contents, atom_of, choice_of, guard_bytes, number_if, number_for, bytes_of_number, number_bytes_of}
+use Rattle.table.specs.declared.table.Table.{Table}
 
 each : {X : Type 0} (P : X → Type 0) (xs : List X) (i : ℕ) (x : X) → All P xs → slice_get xs i ≡ Some x → P x
 each P xs i x all e = subst P (get_or_from_slice_get xs i x x e) (All-get_or P xs i x (nth_inside xs i x e) all)
@@ -26,7 +26,7 @@ none_there : {P : Type 0} (r : Round) (k : ℕ) (c : TableChoice) → slice_get 
 none_there Initial k c e = none_some c e
 none_there Update k c e = none_some c e
 
--- a choice of an opens_as table is right, by what its atom sees
+-- a choice of an opened table is right, by what its atom sees
 choice_right : (t : Table) (r : Round) (i k : ℕ) (c : TableChoice) → choice_of t r i k ≡ Some c → (s : Seen) × (count : ℕ) × ChoiceRight s count c
 choice_right t r i k c e = go (atom_of t i) refl e
   where
@@ -46,10 +46,10 @@ nothing_worth : (old new : List ℕ) → evaluated_number [] old new ≡ pos 0
 unfolding read_number
 nothing_worth old new = refl
 
-pub opens : (t : Table) (r : Round) (i k : ℕ) (bs old new : List ℕ) (answer : Bool) → bs ≡ guard_form (choice_of t r i k) → answer ≡ evaluated_truth bs old new → TruthEvaluated bs old new answer → answer ≡ choice_opens (choice_of t r i k) (value old) (value new)
+pub opens : (t : Table) (r : Round) (i k : ℕ) (bs old new : List ℕ) (answer : Bool) → bs ≡ guard_bytes (choice_of t r i k) → answer ≡ evaluated_truth bs old new → TruthEvaluated bs old new answer → answer ≡ choice_opens (choice_of t r i k) (value old) (value new)
 opens t r i k bs old new answer form is means = go (choice_of t r i k) refl form
   where
-    go : (o : Option TableChoice) → choice_of t r i k ≡ o → bs ≡ guard_form o → answer ≡ choice_opens o (value old) (value new)
+    go : (o : Option TableChoice) → choice_of t r i k ≡ o → bs ≡ guard_bytes o → answer ≡ choice_opens o (value old) (value new)
     go None there form = is ∙ ap (λ xs. evaluated_truth xs old new) form ∙ nothing_holds old new
     go (Some c) there form = let right = choice_right t r i k c there in means.written right.0 c.guard right.2.guard_fits.right form
 
@@ -81,6 +81,6 @@ number_fits t r i k n e h = go (atom_of t i) h
 pub gives : (t : Table) (r : Round) (i k n : ℕ) (bs old new : List ℕ) (answer : ℤ) → bs ≡ number_bytes_of t r i k n → answer ≡ evaluated_number bs old new → NumberEvaluated bs old new answer → answer ≡ atom_gives r (atom_of t i) k n (value old) (value new)
 gives t r i k n bs old new answer form is means = go (number_for (atom_of t i) n (choice_of t r i k)) refl form ∙ sym (gives_value r (atom_of t i) k n old new)
   where
-    go : (o : Option Number) → number_for (atom_of t i) n (choice_of t r i k) ≡ o → bs ≡ number_form o → answer ≡ value_of o (value old) (value new)
+    go : (o : Option Number) → number_for (atom_of t i) n (choice_of t r i k) ≡ o → bs ≡ bytes_of_number o → answer ≡ value_of o (value old) (value new)
     go None there form = is ∙ ap (λ xs. evaluated_number xs old new) form ∙ nothing_worth old new
     go (Some e) there form = let fits = number_fits t r i k n e there in means.written fits.0 e fits.1.right form

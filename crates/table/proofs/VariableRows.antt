@@ -7,8 +7,8 @@ use Rattle.language.specs.laws.Expressions.{none_some}
 use Rattle.language.specs.laws.Reading.{variable_read}
 use Rattle.language.specs.Tables.{TableVariable, variable_at, VariableRight, fine, and_then, read_variable, read_variables}
 use Rattle.model.specs.declared.Fault.{Fault}
-use Rattle.table.specs.Reads.{end_told, Fine, Reads}
-use Rattle.table.specs.Variables.{IsVariable, VariablesLaid, kept}
+use Rattle.table.specs.Reads.{end_of, Fine, Reads}
+use Rattle.table.specs.Variables.{IsVariable, AreVariables, kind_and_top}
 use Rattle.table.specs.declared.reader.Reader.{Reader}
 use Rattle.table.specs.declared.variables.Variable.{Variable}
 use Rattle.table.proofs.Answered.{reads_from, then_stops, then_goes}
@@ -34,19 +34,19 @@ at_other [] v n ne = cond-false (eqb v.name n) (Some v) None (ne_eqb v.name n ne
 at_other (u ∷ made) v n ne = ap (cond (eqb u.name n) (Some u)) (at_other made v n ne)
 
 -- each name has what is kept of its variable, if it is one
-abbrev Laid : List TableVariable → List (Option Variable) → Type 0
-Laid vs rows = (n : ℕ) → get_or rows n None ≡ option_map kept (variable_at vs n)
+abbrev IsLayout : List TableVariable → List (Option Variable) → Type 0
+IsLayout vs rows = (n : ℕ) → get_or rows n None ≡ option_map kind_and_top (variable_at vs n)
 
-row_more : (rows : List (Option Variable)) (made : List TableVariable) (v : TableVariable) → variable_at made v.name ≡ None → v.name < length rows → Laid made rows → Laid (made ++ (v ∷ [])) (set rows v.name (Some (kept v)))
+row_more : (rows : List (Option Variable)) (made : List TableVariable) (v : TableVariable) → variable_at made v.name ≡ None → v.name < length rows → IsLayout made rows → IsLayout (made ++ (v ∷ [])) (set rows v.name (Some (kind_and_top v)))
 row_more rows made v new inside h n = go (cases_eq v.name n)
   where
-    go : (v.name ≡ n) ⊎ (v.name ≡ n → ⊥) → get_or (set rows v.name (Some (kept v))) n None ≡ option_map kept (variable_at (made ++ (v ∷ [])) n)
+    go : (v.name ≡ n) ⊎ (v.name ≡ n → ⊥) → get_or (set rows v.name (Some (kind_and_top v))) n None ≡ option_map kind_and_top (variable_at (made ++ (v ∷ [])) n)
     go (inl e) =
-        ap (λ i. get_or (set rows v.name (Some (kept v))) i None) (sym e) ∙ get_or-set_same rows v.name (Some (kept v)) None inside
-        ∙ sym (ap (option_map kept) (at_new made v n (ap (variable_at made) (sym e) ∙ new) e))
+        ap (λ i. get_or (set rows v.name (Some (kind_and_top v))) i None) (sym e) ∙ get_or-set_same rows v.name (Some (kind_and_top v)) None inside
+        ∙ sym (ap (option_map kind_and_top) (at_new made v n (ap (variable_at made) (sym e) ∙ new) e))
     go (inr ne) =
         let other : n ≢ v.name = λ e. ne (sym e) in
-        get_or-set_other rows v.name n (Some (kept v)) None other ∙ h n ∙ sym (ap (option_map kept) (at_other made v n ne))
+        get_or-set_other rows v.name n (Some (kind_and_top v)) None other ∙ h n ∙ sym (ap (option_map kind_and_top) (at_other made v n ne))
 
 -- ---- so many variables
 
@@ -56,12 +56,12 @@ pub record VariablesSoFar (first : Reader) (count i lowest : ℕ) (now : Reader)
   pub made : List TableVariable
   pub ahead : read_variables 0 count first.bytes.now first.place ≡ behind made (read_variables lowest (count - i) first.bytes.now now.place)
   pub full : length rows ≡ 32
-  pub laid : Laid made rows
+  pub laid : IsLayout made rows
   pub fresh : (n : ℕ) → lowest ≤ n → variable_at made n ≡ None
 
 pub name_small : (lowest : ℕ) {name : ℕ} {u : Variable} {now next : Reader} → Reads IsVariable (read_variable lowest) now next (Ok (name, u)) → name ≤ 31
 name_small lowest {name} {u} {now} {next} r =
-    subst (λ (v : TableVariable). v.name ≤ 31) r.told.made (variable_read lowest now.bytes.now now.place r.told.part next.place r.told.read).holds.name_high
+    subst (λ (v : TableVariable). v.name ≤ 31) r.outcome.made (variable_read lowest now.bytes.now now.place r.outcome.part next.place r.outcome.read).holds.name_high
 
 pub variables_none : (first : Reader) (count : ℕ) → VariablesSoFar first count 0 0 first (replicate 32 None)
 variables_none first count =
@@ -83,15 +83,15 @@ module _ {first : Reader} {count i lowest : ℕ} {now : Reader} {rows : List (Op
   abbrev bs : List ℕ
   bs = first.bytes.now
 
-  pub variables_stop : {next : Reader} {fault : Fault} → i < count → Reads IsVariable (read_variable lowest) now next (Err fault) → Reads VariablesLaid (read_variables 0 count) first next (Err fault)
+  pub variables_stop : {next : Reader} {fault : Fault} → i < count → Reads IsVariable (read_variable lowest) now next (Err fault) → Reads AreVariables (read_variables 0 count) first next (Err fault)
   variables_stop {next} {fault} l r =
       let all = length bs in
-      let here : end_told all (read_variable lowest bs now.place) ≡ Err fault = reads_from first f.same r in
+      let here : end_of all (read_variable lowest bs now.place) ≡ Err fault = reads_from first f.same r in
       record {
         same = r.same ∙ f.same;
-        told =
-            ap (end_told all) f.ahead
-            ∙ then_stops all (read_variables lowest (count - i) bs now.place) _ fault (ap (end_told all) (more_left lowest (count - i) (count - (i + 1)) bs now.place (omega arith)) ∙ then_stops all (read_variable lowest bs now.place) _ fault here);
+        outcome =
+            ap (end_of all) f.ahead
+            ∙ then_stops all (read_variables lowest (count - i) bs now.place) _ fault (ap (end_of all) (more_left lowest (count - i) (count - (i + 1)) bs now.place (omega arith)) ∙ then_stops all (read_variable lowest bs now.place) _ fault here);
       }
 
   pub variables_more : {name : ℕ} {u : Variable} {next : Reader} → i < count → Reads IsVariable (read_variable lowest) now next (Ok (name, u)) → VariablesSoFar first count (i + 1) (name + 1) next (set rows name (Some u))
@@ -102,7 +102,7 @@ module _ {first : Reader} {count i lowest : ℕ} {now : Reader} {rows : List (Op
         ahead =
             f.ahead ∙ ap (behind f.made) (more_left lowest (count - i) (count - (i + 1)) bs now.place (omega arith) ∙ then_goes (read_variable lowest bs now.place) _ v next.place read)
             ∙ behind_more f.made v (read_variables (v.name + 1) (count - (i + 1)) bs next.place);
-        full = length-set rows v.name (Some (kept v)) ∙ f.full;
+        full = length-set rows v.name (Some (kind_and_top v)) ∙ f.full;
         laid = row_more rows f.made v new (omega (arith, right.name_high, f.full)) f.laid;
         fresh = λ n h. at_other f.made v n (omega arith) ∙ f.fresh n (omega (arith, right.name_low));
       }
@@ -122,12 +122,12 @@ module _ {first : Reader} {count i lowest : ℕ} {now : Reader} {rows : List (Op
       new : variable_at f.made v.name ≡ None
       new = f.fresh v.name right.name_low
 
-  pub variables_all : i ≡ count → (full : length rows ≡ 32) → Reads VariablesLaid (read_variables 0 count) first now (Ok (record { rows = rows; full = full }))
+  pub variables_all : i ≡ count → (full : length rows ≡ 32) → Reads AreVariables (read_variables 0 count) first now (Ok (record { rows = rows; full = full }))
   variables_all e full =
       let none : count - i ≡ 0 = omega arith in
       record {
         same = f.same;
-        told =
+        outcome =
             record {
               part = f.made;
               read = f.ahead ∙ ap (λ n. behind f.made (read_variables lowest n bs now.place)) none ∙ ap (behind f.made) (variables_end lowest bs now.place) ∙ behind_all f.made now.place;

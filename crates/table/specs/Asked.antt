@@ -6,18 +6,18 @@ use Rattle.model.specs.declared.Round.TheVariants.{Initial, Update}
 use Rattle.language.specs.Expressions.{Number, number_bytes, truth_bytes}
 use Rattle.language.specs.Tables.{TableAtom, TableChoice, size}
 use Rattle.model.specs.declared.row.Row.{Row}
-use Rattle.table.specs.Laid.{AtomLaid}
+use Rattle.table.specs.Layouts.{IsAtomAt}
 use Rattle.table.specs.Rows.{Paired}
 use Rattle.table.specs.declared.parts.AtomLayout.{AtomLayout}
 use Rattle.table.specs.Items.{after_item, item_bytes, item_place}
 
 -- the atom, if there is one, begins at `start` and lies so
-abbrev pub AtomFound : List ℕ → ℕ → Option TableAtom → Option AtomLayout → Type 0
-AtomFound bs start = Paired (AtomLaid bs start)
+abbrev pub IsAtomOf : List ℕ → ℕ → Option TableAtom → Option AtomLayout → Type 0
+IsAtomOf bs start = Paired (IsAtomAt bs start)
 
-abbrev pub layout_in : Round → AtomLayout → Row ℕ 8
-layout_in Initial l = l.initial
-layout_in Update l = l.update
+abbrev pub places_in : Round → AtomLayout → Row ℕ 8
+places_in Initial l = l.initial
+places_in Update l = l.update
 
 -- how many names the atom controls
 abbrev pub controlled : Option TableAtom → ℕ
@@ -34,5 +34,5 @@ pub record ChoiceStands (bs : List ℕ) (count : ℕ) (c : TableChoice) (place :
   pub numbered : (m : ℕ) → m < count → (e : Number) × (slice_get c.gives m ≡ Some e)
 
 -- the choice, if there is one, stands at this place
-abbrev pub ChoiceFound : List ℕ → ℕ → Option TableChoice → Option ℕ → Type 0
-ChoiceFound bs count = Paired (ChoiceStands bs count)
+abbrev pub IsChoiceOf : List ℕ → ℕ → Option TableChoice → Option ℕ → Type 0
+IsChoiceOf bs count = Paired (ChoiceStands bs count)

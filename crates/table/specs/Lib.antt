@@ -1,14 +1,14 @@
+pub mod Answers
 pub mod Asked
 pub mod Contents
 pub mod Expressions
 pub mod Items
-pub mod Kept
-pub mod Laid
+pub mod Layouts
 pub mod Places
 pub mod Promises
-pub mod Read
 pub mod Reads
 pub mod Rows
 pub mod Sets
 pub mod Stands
+pub mod Table
 pub mod Variables

@@ -7,8 +7,8 @@ use Rattle.language.specs.Statements.{FirstFault, LeftOver}
 use Rattle.language.specs.Tables.{TableSyntax, table_bytes, TableRight, breaks, opening_of, syntax_outline, table_acts}
 use Rattle.language.specs.declared.rules.Rule.{Rule}
 use Rattle.language.specs.declared.rules.Rule.TheVariants.{TooManyBytes, BytesMissing, BytesLeftOver}
-use Rattle.table.specs.Kept.{meaning_of}
-use Rattle.table.specs.declared.kept.Table.{Table}
+use Rattle.table.specs.Table.{meaning_of}
+use Rattle.table.specs.declared.table.Table.{Table}
 
 -- this is what the table means
 pub record Means (t : TableSyntax) (m : Meaning) : Type 0 where

@@ -6,8 +6,8 @@ use Rattle.table.specs.declared.variables.Variable.{Variable}
 use Rattle.table.specs.declared.variables.Variables.{Variables}
 
 -- what is kept of a variable beside its name
-abbrev pub kept : TableVariable → Variable
-kept v = record { kind = v.kind; top = v.top }
+abbrev pub kind_and_top : TableVariable → Variable
+kind_and_top v = record { kind = v.kind; top = v.top }
 
 abbrev pub IsVariable : TableVariable → ℕ × Variable → Type 0
 IsVariable v (name, u) = v ≡ record { name = name; kind = u.kind; top = u.top }
@@ -17,5 +17,5 @@ abbrev pub at : Variables → ℕ → Option Variable
 at l n = slice_index_or l.rows n None
 
 -- each name stands for what it does among the variables
-abbrev pub VariablesLaid : List TableVariable → Variables → Type 0
-VariablesLaid vs l = (n : ℕ) → at l n ≡ option_map kept (variable_at vs n)
+abbrev pub AreVariables : List TableVariable → Variables → Type 0
+AreVariables vs l = (n : ℕ) → at l n ≡ option_map kind_and_top (variable_at vs n)

@@ -1,10 +1,10 @@
 //! The atoms of a table.
 ghost use Rattle.expression.specs.Checking.{seen_of};
 ghost use Rattle.language.specs.Tables.{TableVariable, many, read_atom, seen_in};
-ghost use Rattle.table.specs.Laid.{AtomLaid, AtomsLaid};
+ghost use Rattle.table.specs.Layouts.{IsAtomAt, AreAtomsAt};
 ghost use Rattle.table.specs.Reads.{Reads};
 ghost use Rattle.table.specs.Sets.{NamesOf};
-ghost use Rattle.table.specs.Variables.{VariablesLaid};
+ghost use Rattle.table.specs.Variables.{AreVariables};
 ghost use Rattle.model.specs.Rows.{listed};
 ghost use Rattle.std.specs.Prelude.{◌≡◌, ℕ, ◌≤◌, List, []};
 
@@ -42,7 +42,8 @@ fn no_atom() -> AtomLayout
 
 impl Reader<'_> {
     fn atom(&mut self, variables: &Variables) -> Result<AtomLayout, Fault>
-        ensures { (vs : List TableVariable) → VariablesLaid vs variables.now → Reads (AtomLaid self.old.bytes.now self.old.place) (read_atom vs) self.old self.new result }
+        ensures { (vs : List TableVariable) → AreVariables vs variables.now →
+            Reads (IsAtomAt self.old.bytes.now self.old.place) (read_atom vs) self.old self.new result }
     {
         let controls = self.set(|names| are_own(variables, names))?;
         let reads = self.set(|names| are_known(variables, names))?;
@@ -63,12 +64,12 @@ impl Reader<'_> {
         })
     }
 
-    /// So many atoms. `choices`, `numbers` and `variables` go on in the same way, and fill a row of another type, nothing, or an
-    /// array by name. By `try_for_each` nothing is known of the reader that its closure moves; a function for rows of any type has
-    /// to tell of each call in turn, and is longer than what it saves the two that fill one.
+    /// So many atoms.
     pub fn atoms(&mut self, variables: &Variables, count: u8) -> Result<Row<AtomLayout, 16>, Fault>
         requires { count ≤ 16 }
-        ensures { (vs : List TableVariable) → VariablesLaid vs variables.now → Reads (AtomsLaid self.old.bytes.now self.old.place) (many (read_atom vs) count) self.old self.new result }
+        ensures { let laid = AreAtomsAt self.old.bytes.now self.old.place in
+            (vs : List TableVariable) → AreVariables vs variables.now →
+            Reads laid (many (read_atom vs) count) self.old self.new result }
     {
         let mut atoms = Row::empty(no_atom());
         for _ in 0..count {

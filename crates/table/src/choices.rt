@@ -1,7 +1,7 @@
 //! The choices of an atom in one kind of round.
 ghost use Rattle.expression.specs.Checking.{seen_of};
 ghost use Rattle.language.specs.Tables.{between, byte_item, many, read_choice};
-ghost use Rattle.table.specs.Laid.{ChoicesLaid};
+ghost use Rattle.table.specs.Layouts.{AreChoicesAt};
 ghost use Rattle.model.specs.Meanings.{most_choices};
 ghost use Rattle.table.specs.Reads.{Passes, Reads, Tells};
 ghost use Rattle.std.specs.Prelude.{◌≡◌, ◌≤◌};
@@ -42,7 +42,9 @@ impl Reader<'_> {
     /// Where so many choices begin.
     pub fn choices(&mut self, seen: &Seen, controlled: u8, count: u8) -> Result<Places, Fault>
         requires { count ≤ 8 }
-        ensures { Reads (ChoicesLaid self.old.bytes.now self.old.place (seen_of seen.now) controlled) (many (read_choice (seen_of seen.now) controlled) count) self.old self.new result }
+        ensures { let sees = seen_of seen.now in
+            let laid = AreChoicesAt self.old.bytes.now self.old.place sees controlled in
+            Reads laid (many (read_choice sees controlled) count) self.old self.new result }
     {
         let mut places = Row::empty(0);
         for _ in 0..count {

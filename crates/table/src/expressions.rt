@@ -17,7 +17,8 @@ impl Reader<'_> {
     fn expression<F: Fn(&[u8]) -> Result<(), usize>>(&mut self, check: F) -> Result<(), Fault>
         requires can { F.IsAlwaysCallable check }
         requires inside { FaultsInside (FnReturnsAt F.Fn check) }
-        ensures { (fault : List ℕ → Option ℕ) → Checks (FnReturnsAt F.Fn check) fault → Passes (judged_item fault) self.old self.new result }
+        ensures { (fault : List ℕ → Option ℕ) → Checks (FnReturnsAt F.Fn check) fault →
+            Passes (judged_item fault) self.old self.new result }
     {
         let size = self.byte_between(Rule::WrongExpression, 1, 64)?;
         let start = usize::from(self.place());
@@ -25,6 +26,7 @@ impl Reader<'_> {
         check(part).map_err(|fault| Rule::WrongExpression.broken_at(start + fault))
     }
 
+    /// A truth behind its length byte.
     pub fn truth(&mut self, seen: &Seen) -> Result<(), Fault>
         ensures { Passes (expression_item (whole_truth 8 (seen_of seen.now))) self.old self.new result }
     {
@@ -39,7 +41,8 @@ impl Reader<'_> {
 
     /// So many numbers.
     pub fn numbers(&mut self, seen: &Seen, count: u8) -> Result<(), Fault>
-        ensures { Passes (many (expression_item (whole_number 8 (seen_of seen.now))) count) self.old self.new result }
+        ensures { let item = expression_item (whole_number 8 (seen_of seen.now)) in
+            Passes (many item count) self.old self.new result }
     {
         for _ in 0..count {
             self.number(seen)?;

@@ -5,11 +5,11 @@ mod atoms;
 mod choices;
 mod expressions;
 mod items;
-mod kept;
 mod parts;
 mod reader;
 mod reading;
 mod sets;
+mod table;
 mod variables;
 
-pub use kept::Table;
+pub use table::Table;

@@ -1,7 +1,7 @@
 //! A byte table is read once, from the front: the first fault, or where everything lies.
 ghost use Rattle.language.specs.Tables.{read_table};
-ghost use Rattle.table.specs.Laid.{Laid};
-ghost use Rattle.table.specs.Read.{Read};
+ghost use Rattle.table.specs.Layouts.{IsLayout};
+ghost use Rattle.table.specs.Answers.{IsAnswer};
 ghost use Rattle.table.specs.Reads.{Reads};
 
 use crate::parts::Layout;
@@ -12,7 +12,7 @@ use model::Fault;
 impl Reader<'_> {
     #[tactic(auto, unfolding(language::specs::Tables::read_table))]
     fn table(&mut self) -> Result<Layout, Fault>
-        ensures { Reads (Laid self.old.bytes.now self.old.place) read_table self.old self.new result }
+        ensures { Reads (IsLayout self.old.bytes.now self.old.place) read_table self.old self.new result }
     {
         let width = self.byte_between(Rule::WrongVariable, 0, 32)?;
         let variables = self.variables(width)?;
@@ -24,7 +24,7 @@ impl Reader<'_> {
 
 /// The layout of the table that the bytes are, or their first fault.
 pub fn read(bytes: &[u8]) -> Result<Layout, Fault>
-    ensures { Read bytes.now result }
+    ensures { IsAnswer bytes.now result }
 {
     let mut reader = Reader::new(bytes)?;
     let layout = reader.table()?;

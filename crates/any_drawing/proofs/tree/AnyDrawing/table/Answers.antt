@@ -1,8 +1,8 @@
 use Rattle.std.proofs.Common.{◌≡◌, ℕ, List, sym, refl, ap, subst}
 use Rattle.language.specs.Tables.{opening_of, fault_of, syntax_of, syntax_outline, table_acts}
-use Rattle.table.specs.Kept.{contents}
+use Rattle.table.specs.Table.{contents}
 use Rattle.table.specs.Promises.{OpensAsWritten}
-use Rattle.table.specs.declared.kept.Table.{Table}
+use Rattle.table.specs.declared.table.Table.{Table}
 use Rattle.any_drawing.proofs.tree.AnyDrawing.table.Goals as goal
 
 pub returns : goal.returns

@@ -51,7 +51,7 @@ returns-in_err-initial c =
     let reads = c.in_ok-reads.ensures (names_variables vs) (search rules) in
     let awaits = c.in_ok-awaits.ensures (names_variables vs) (search rules) in
     let p = err_from_is_err_and c.from_residual-in_err-initial.result c.from_residual-in_err-initial.ensures.1 in
-    rw (p.1, p.2) (initial_stop vs c.args.self.now controls reads awaits c.in_ok-initials.ensures c.in_ok-updates.ensures (c.seen_in-first.ensures _ _ reads.told.made awaits.told.made) (c.count-size.ensures ∙ size_same _ c.in_ok-controls.controls controls.told.made) c.in_err-initial.ensures)
+    rw (p.1, p.2) (initial_stop vs c.args.self.now controls reads awaits c.in_ok-initials.ensures c.in_ok-updates.ensures (c.seen_in-first.ensures _ _ reads.outcome.made awaits.outcome.made) (c.count-size.ensures ∙ size_same _ c.in_ok-controls.controls controls.outcome.made) c.in_err-initial.ensures)
 
 pub returns-in_err-update : goal.returns-in_err-update
 returns-in_err-update c =
@@ -60,7 +60,7 @@ returns-in_err-update c =
     let reads = c.in_ok-reads.ensures (names_variables vs) (search rules) in
     let awaits = c.in_ok-awaits.ensures (names_variables vs) (search rules) in
     let p = err_from_is_err_and c.from_residual-in_err-update.result c.from_residual-in_err-update.ensures.1 in
-    rw (p.1, p.2) (update_stop vs c.args.self.now controls reads awaits c.in_ok-initials.ensures c.in_ok-updates.ensures (c.seen_in-first.ensures _ _ reads.told.made awaits.told.made) (c.count-size.ensures ∙ size_same _ c.in_ok-controls.controls controls.told.made) c.in_ok-initial.ensures (c.seen_in-later.ensures _ _ reads.told.made awaits.told.made) c.in_err-update.ensures)
+    rw (p.1, p.2) (update_stop vs c.args.self.now controls reads awaits c.in_ok-initials.ensures c.in_ok-updates.ensures (c.seen_in-first.ensures _ _ reads.outcome.made awaits.outcome.made) (c.count-size.ensures ∙ size_same _ c.in_ok-controls.controls controls.outcome.made) c.in_ok-initial.ensures (c.seen_in-later.ensures _ _ reads.outcome.made awaits.outcome.made) c.in_err-update.ensures)
 
 pub returns : goal.returns
 returns c =
@@ -68,4 +68,4 @@ returns c =
     let controls = c.in_ok-controls.ensures (names_own vs) (search rules) in
     let reads = c.in_ok-reads.ensures (names_variables vs) (search rules) in
     let awaits = c.in_ok-awaits.ensures (names_variables vs) (search rules) in
-    atom_goes vs c.args.self.now controls reads awaits c.in_ok-initials.ensures c.in_ok-updates.ensures (c.seen_in-first.ensures _ _ reads.told.made awaits.told.made) (c.count-size.ensures ∙ size_same _ c.in_ok-controls.controls controls.told.made) c.in_ok-initial.ensures (c.seen_in-later.ensures _ _ reads.told.made awaits.told.made) c.in_ok-update.ensures
+    atom_goes vs c.args.self.now controls reads awaits c.in_ok-initials.ensures c.in_ok-updates.ensures (c.seen_in-first.ensures _ _ reads.outcome.made awaits.outcome.made) (c.count-size.ensures ∙ size_same _ c.in_ok-controls.controls controls.outcome.made) c.in_ok-initial.ensures (c.seen_in-later.ensures _ _ reads.outcome.made awaits.outcome.made) c.in_ok-update.ensures

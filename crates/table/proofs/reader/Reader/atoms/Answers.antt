@@ -1,7 +1,7 @@
 use Rattle.std.proofs.Common.{◌≡◌, ◌+◌, length, ap, subst, ◌∙◌, arith}
 use Rattle.std.proofs.lemmas.Result.{err_from_is_err_and}
 use Rattle.model.specs.Rows.{listed}
-use Rattle.table.specs.Laid.{AtomLaid, AtomsLaid}
+use Rattle.table.specs.Layouts.{IsAtomAt, AreAtomsAt}
 use Rattle.language.specs.Tables.{atom_bytes}
 use Rattle.language.specs.laws.Reading.{atom_read}
 use Rattle.table.specs.Places.{atoms_end}
@@ -25,9 +25,9 @@ loop-preserved c =
       pushed_counts 16 (listed c.loop.atoms) (listed c.push.new.self) atom c.push.ensures c.unwrap.ensures ∙ ap (λ n. n + 1) c.loop.invariant.0,
       λ vs laid.
           let so_far = c.loop.invariant.1 vs laid in
-          reads_more so_far (λ made. AtomsLaid first.bytes.now first.place made c.push.new.self × (next ≡ atoms_end first.place made)) (omega arith) (c.in_ok-atom.ensures vs laid)
+          reads_more so_far (λ made. AreAtomsAt first.bytes.now first.place made c.push.new.self × (next ≡ atoms_end first.place made)) (omega arith) (c.in_ok-atom.ensures vs laid)
           (λ x e made q. (
-            each_pushed 16 q.0 c.push.ensures c.unwrap.ensures (subst (λ k. AtomLaid first.bytes.now k x atom) q.1 (subst (λ b. AtomLaid b.now before.place x atom) so_far.same made)),
+            each_pushed 16 q.0 c.push.ensures c.unwrap.ensures (subst (λ k. IsAtomAt first.bytes.now k x atom) q.1 (subst (λ b. IsAtomAt b.now before.place x atom) so_far.same made)),
             ends_more atom_bytes first.place before.place next so_far.made x q.1 (atom_read vs first.bytes.now before.place x next e).ends,
           )),
     )

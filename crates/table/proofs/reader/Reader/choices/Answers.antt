@@ -3,7 +3,7 @@ use Rattle.std.proofs.lemmas.Result.{err_from_is_err_and}
 use Rattle.expression.specs.Checking.{seen_of}
 use Rattle.language.specs.Tables.{choice_bytes}
 use Rattle.language.specs.laws.Reading.{choice_read}
-use Rattle.table.specs.Laid.{ChoicesLaid}
+use Rattle.table.specs.Layouts.{AreChoicesAt}
 use Rattle.table.specs.Places.{choices_end}
 use Rattle.table.proofs.Answered.{as_reads}
 use Rattle.table.proofs.Places.{ends_more}
@@ -22,7 +22,7 @@ pub loop-preserved : goal.loop-preserved
 loop-preserved c =
     let first = c.args.self.now in let seen = seen_of c.args.seen.now in let controlled = c.args.controlled in
     let before = c.loop.self.place in let next = c.choice.new.self.place in
-    passes_more c.loop.invariant (λ made. ChoicesLaid first.bytes.now first.place seen controlled made c.push.new.self × (next ≡ choices_end first.place made)) (omega arith) c.in_ok-choice.ensures
+    passes_more c.loop.invariant (λ made. AreChoicesAt first.bytes.now first.place seen controlled made c.push.new.self × (next ≡ choices_end first.place made)) (omega arith) c.in_ok-choice.ensures
     (λ x e q. (
       each_pushed 8 q.0 c.push.ensures c.unwrap.ensures (record { begins = c.place-place.ensures ∙ q.1; end = next; read = rw c.place-place.ensures e }),
       ends_more choice_bytes first.place before next c.loop.invariant.made x q.1 (choice_read seen controlled first.bytes.now before x next e).ends,

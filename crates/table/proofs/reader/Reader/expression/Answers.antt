@@ -15,7 +15,7 @@ map_err-requires g c = λ e is.
 pub returns : goal.returns
 returns g c = λ fault checks.
     let answered : FnReturnsAt g.F.Fn c.args.check c.in_ok-part.part.now c.check.result = search rules in
-    let told = checks _ _ answered in
+    let outcome = checks _ _ answered in
     let fine = judged_fine fault c.in_ok-size.ensures c.in_ok-part.ensures in
     let wrong = λ (place : ℕ) (broken : _). judged_wrong fault c.in_ok-size.ensures c.in_ok-part.ensures {place = place} {broken = broken} in
     grind (arith, common_steps, fine, wrong)
