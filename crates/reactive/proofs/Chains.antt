@@ -10,7 +10,7 @@ use Rattle.theory.specs.Members.{Member, Distinct, Included}
 use Rattle.theory.specs.Runs.{Continues, Trajectory, Ends, Reachable}
 use Rattle.theory.proofs.Enumerations.{below_exact, length_below}
 use Rattle.theory.proofs.Members.{pigeonhole}
-use Rattle.theory.proofs.Runs.{initial_reachable, step_reachable, simple_run}
+use Rattle.theory.proofs.Runs.{initial_reachable, simple_run}
 use Rattle.units.specs.Sealing.{awaits_atom, awaits_through}
 
 module _ (m : Meaning) where
@@ -41,17 +41,6 @@ module _ (m : Meaning) where
       go : (run : List ℕ) → Trajectory (Step b) Step run → Ends run c → Chain a c
       go [] i e = absurd i
       go (s ∷ ts) i e = record { run = b ∷ (s ∷ ts); trajectory = (h, (i.0, i.1)); ends = e }
-
-  onward : (a s : ℕ) (ts : List ℕ) (c : ℕ) → Chain a s → Continues Step s ts → Ends (s ∷ ts) c → Chain a c
-  onward a s [] c r k e = subst (λ x. Chain a x) e r
-  onward a s (t ∷ ts) c r k e = onward a t ts c (step_reachable s t r k.0) k.1 e
-
-  pub chain_on : (a b c : ℕ) → Chain a b → Chain b c → Chain a c
-  chain_on a b c r q = go q.run q.trajectory q.ends
-    where
-      go : (run : List ℕ) → Trajectory (Step b) Step run → Ends run c → Chain a c
-      go [] i e = absurd i
-      go (s ∷ ts) i e = onward a s ts c (step_reachable b s r i.0) i.1 e
 
   -- the first of a chain is an atom
   pub chain_low : (a b : ℕ) → Chain a b → a < m.outline.atoms

@@ -8,6 +8,7 @@ pub mod Counting
 pub mod Deciding
 pub mod Fit
 pub mod FitUnits
+pub mod HiddenModules
 pub mod Joins
 pub mod Judged
 pub mod Leading
@@ -23,10 +24,10 @@ pub mod Products
 pub mod Reaching
 pub mod Refusing
 pub mod Renamed
+pub mod RenamedModules
 pub mod Rounds
 pub mod RoundsOfUnits
 pub mod Runs
 pub mod Same
-pub mod Sorting
 pub mod States
 pub mod Theorems

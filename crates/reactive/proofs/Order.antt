@@ -3,12 +3,19 @@ use Rattle.std.proofs.Common.{◌≡◌, ℕ, ◌<◌, Bool, true, false, List, 
 use Rattle.std.proofs.lemmas.Bool.{both_ways, cases_Bool}
 use Rattle.model.specs.Meanings.{Meaning}
 use Rattle.theory.specs.Enumerations.{below}
-use Rattle.theory.specs.Members.{Distinct, Exactly}
+use Rattle.theory.specs.Members.{Member, Distinct, Exactly}
 use Rattle.theory.proofs.Enumerations.{below_exact, distinct_below}
 use Rattle.theory.proofs.Runs.{initial_reachable}
-use Rattle.units.specs.Sealing.{awaits_atom, awaits_through, circular}
-use Rattle.reactive.proofs.Chains.{chain_on, chain_low, chain_through, through_chain}
-use Rattle.reactive.proofs.Sorting.{Sorted, sorted, sorted_there, sorted_from, sorted_distinct, sorted_sorted}
+use Rattle.units.specs.Sealing.{awaits_atom, circular}
+use Rattle.reactive.specs.Reactive.{Plus, Plus.one, Plus.more, Acyclic}
+use Rattle.reactive.proofs.Chains.{Chain, chain_first, chain_low, chain_through}
+use Rattle.reactive.proofs.Deciding.{dec_true}
+use Rattle.reactive.proofs.Ordering.{plus_on, Rising, ordered}
+
+-- nothing in the list stands above a later element
+abbrev pub Sorted : {A : Type 0} → (A → A → Bool) → List A → Type 0
+Sorted above [] = Unit {0}
+Sorted {A} above (x ∷ xs) = ((y : A) → Member y xs → above x y ≡ false) × Sorted above xs
 
 -- each atom once, none before one that it awaits
 pub record Order (m : Meaning) (order : List ℕ) : Type 0 where
@@ -16,40 +23,33 @@ pub record Order (m : Meaning) (order : List ℕ) : Type 0 where
   pub distinct : Distinct order
   pub after : Sorted (awaits_atom m.outline) order
 
-sorted_by_less : {A : Type 0} (above less : A → A → Bool) → ((x y : A) → less x y ≡ true → above x y ≡ true) → (xs : List A) → Sorted above xs → Sorted less xs
-sorted_by_less above less h [] s = s
-sorted_by_less above less h (x ∷ xs) s =
-    (λ y k. ⊎_elim (λ t. absurd (both_ways (above x y) (s.0 y k) (h x y t))) (λ f. f) (cases_Bool (less x y)), sorted_by_less above less h xs s.1)
-
 module _ (m : Meaning) (clear : (a : ℕ) → a < m.outline.atoms → circular m.outline a ≡ false) where
-  -- a awaits b, directly or through others
-  abbrev above : ℕ → ℕ → Bool
-  above = awaits_through m.outline m.outline.atoms
+  abbrev Waits : ℕ → ℕ → Type 0
+  Waits a b = awaits_atom m.outline a b ≡ true
 
-  above_trans : (a b c : ℕ) → above a b ≡ true → above b c ≡ true → above a c ≡ true
-  above_trans a b c h k = chain_through m a c (chain_on m a b c (through_chain m m.outline.atoms a b h) (through_chain m m.outline.atoms b c k))
+  chain : (a b : ℕ) → Plus Waits a b → Chain m a b
+  chain a b (one w) = initial_reachable b w
+  chain a c (more {y = b} w p) = chain_first m a b c w (chain b c p)
 
-  above_not_itself : (a : ℕ) → above a a ≡ true → ⊥
-  above_not_itself a h = both_ways (above a a) (clear a (chain_low m a a (through_chain m m.outline.atoms a a h))) h
+  waits_acyclic : Acyclic Waits
+  waits_acyclic a b p q =
+      let c = chain a a (plus_on Waits a b a p q) in
+      both_ways (circular m.outline a) (clear a (chain_low m a a c)) (chain_through m a a c)
 
-  above_step : (a b : ℕ) → awaits_atom m.outline a b ≡ true → above a b ≡ true
-  above_step a b h = chain_through m a b (initial_reachable b h)
-
-  -- any list without repetition of things that are numbered by atoms
-  pub ordered_by : {A : Type 0} (number : A → ℕ) (xs : List A) → Sorted (λ x y. awaits_atom m.outline (number x) (number y)) (sorted (λ x y. above (number x) (number y)) xs)
-  ordered_by number xs =
-      sorted_by_less (λ x y. above (number x) (number y)) (λ x y. awaits_atom m.outline (number x) (number y)) (λ x y. above_step (number x) (number y)) (sorted (λ x y. above (number x) (number y)) xs)
-      (sorted_sorted (λ x y. above (number x) (number y)) (λ x y z. above_trans (number x) (number y) (number z)) (λ x. above_not_itself (number x)) xs)
+  sorted : (xs : List ℕ) → Rising Waits xs → Sorted (awaits_atom m.outline) xs
+  sorted [] r = tt
+  sorted (x ∷ xs) r = (λ y k. ⊎_elim (λ t. absurd (r.0 y k t)) (λ f. f) (cases_Bool (awaits_atom m.outline x y)), sorted xs r.1)
 
   pub atoms_in_order : (order : List ℕ) × Order m order
-  atoms_in_order = (
-    sorted above (below m.outline.atoms),
-    record {
-      exact = record {
-        complete = λ a l. sorted_there above (below m.outline.atoms) a ((below_exact m.outline.atoms).complete a l);
-        sound = λ a k. (below_exact m.outline.atoms).sound a (sorted_from above (below m.outline.atoms) a k);
-      };
-      distinct = sorted_distinct above (below m.outline.atoms) (distinct_below m.outline.atoms);
-      after = ordered_by (λ a. a) (below m.outline.atoms);
-    },
-  )
+  atoms_in_order =
+      let o = ordered Waits (λ a b. dec_true (awaits_atom m.outline a b)) waits_acyclic (below m.outline.atoms) (distinct_below m.outline.atoms) in (
+        o.order,
+        record {
+          exact = record {
+            complete = λ a l. o.there a ((below_exact m.outline.atoms).complete a l);
+            sound = λ a k. (below_exact m.outline.atoms).sound a (o.back a k);
+          };
+          distinct = o.distinct;
+          after = sorted o.order o.rising;
+        },
+      )

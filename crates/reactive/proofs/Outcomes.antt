@@ -18,8 +18,7 @@ use Rattle.reactive.specs.Outcomes.{Outcome, OutcomesFrom}
 use Rattle.reactive.specs.Statements.{TheCountIsOfOutcomes}
 use Rattle.reactive.proofs.Counting.{many_unique}
 use Rattle.reactive.proofs.Limits.{NumbersBelow, numbers_exact}
-use Rattle.reactive.proofs.Rounds.{row_of}
-use Rattle.reactive.proofs.States.{states_agree}
+use Rattle.reactive.proofs.States.{states_agree, row_of}
 
 module _ (m : Meaning) where
   module _ (r : Round) (s : List ℕ) where

@@ -12,9 +12,8 @@ use Rattle.units.proofs.Theory.{reached_state}
 use Rattle.reactive.specs.Modules.{module_of}
 use Rattle.reactive.specs.Reactive.{Valuation, Agree, Variable}
 use Rattle.reactive.specs.Rounds.{ComesNext, RoundsEndAsTheModuleMay, RoundsLeadWhereverTheModuleMay}
-use Rattle.reactive.proofs.Rounds.{row_of}
 use Rattle.reactive.proofs.Runs.{initial_same, follows_same}
-use Rattle.reactive.proofs.States.{states_agree, follows}
+use Rattle.reactive.proofs.States.{states_agree, follows, row_of}
 
 module _ (m : Meaning) where
   -- what follows by rows comes next

@@ -9,8 +9,7 @@ use Rattle.reactive.specs.Modules.{Below, no_old, module_of, Row}
 use Rattle.reactive.specs.Reactive.{Valuation, Agree, Variable, IsState, IsInitial, Follows, GoesOn, IsTrajectory, EndsIn}
 use Rattle.reactive.specs.Runs.{AgreeAlong, TrajectoriesAgree, TrajectoriesAreThePublishedOnes}
 use Rattle.reactive.proofs.Leading.{alike_initially, leading_concerned}
-use Rattle.reactive.proofs.Rounds.{row_of}
-use Rattle.reactive.proofs.States.{variable_from, states_agree}
+use Rattle.reactive.proofs.States.{variable_from, states_agree, row_of}
 
 module _ (m : Meaning) where
   -- the same on the module's variables

@@ -3,6 +3,7 @@ use Rattle.std.proofs.Common.{◌≡◌, ℕ, ◌<◌, ◌≤◌, true, false, c
 use Rattle.std.proofs.lemmas.List.{get_or_past}
 use Rattle.std.proofs.lemmas.Bool.{both_ways, cases_Bool, cases_lt, cond-true, cond-false}
 use Rattle.composition.specs.Views.{as_state}
+use Rattle.composition.proofs.States.{state_zero}
 use Rattle.composition.proofs.Views.{length_as_state, value_as_state}
 use Rattle.model.specs.Meanings.{Valuation, Meaning}
 use Rattle.model.specs.States.{value, is_state, yields, nothing, InitialState, Successor, Continues, Trajectory}
@@ -108,16 +109,20 @@ module _ (m : Meaning) where
             λ i. (here.1 i.0, (continues t ts i.0.state (λ u k. rows u (inr k))).1 i.1),
           )
 
-  -- the valuation as a row
-  abbrev row_of : Valuation → List ℕ
-  row_of v = as_state (λ n. cond (is_some (m.outline.kind n)) (v n) 0)
+  -- a state of the drawing is a row
+  pub row_of : (s : List ℕ) → is_state m.outline s ≡ true → Row m s
+  row_of s h = record { long = (state_parts m.outline s h).long; zero = state_zero m s h }
 
-  row_zero : (v : Valuation) (n : ℕ) → is_some (m.outline.kind n) ≡ false → value (row_of v) n ≡ 0
+  -- the valuation as a row
+  abbrev as_row : Valuation → List ℕ
+  as_row v = as_state (λ n. cond (is_some (m.outline.kind n)) (v n) 0)
+
+  row_zero : (v : Valuation) (n : ℕ) → is_some (m.outline.kind n) ≡ false → value (as_row v) n ≡ 0
   row_zero v n e = go (cases_lt n 32)
     where
-      go : (n < 32) ⊎ (32 ≤ n) → value (row_of v) n ≡ 0
+      go : (n < 32) ⊎ (32 ≤ n) → value (as_row v) n ≡ 0
       go (inl l) = value_as_state (λ k. cond (is_some (m.outline.kind k)) (v k) 0) n l ∙ cond-false (is_some (m.outline.kind n)) (v n) 0 e
-      go (inr l) = get_or_past (row_of v) n 0 (omega (arith, length_as_state (λ k. cond (is_some (m.outline.kind k)) (v k) 0)))
+      go (inr l) = get_or_past (as_row v) n 0 (omega (arith, length_as_state (λ k. cond (is_some (m.outline.kind k)) (v k) 0)))
 
   pub states_agree : StatesAgree m
   states_agree =
@@ -127,7 +132,7 @@ module _ (m : Meaning) where
         successors = successors;
         trajectories = trajectories;
         told = λ v h. (
-          row_of v,
+          as_row v,
           record { long = length_as_state _; zero = row_zero v },
           λ n x. let e = variable_there n x in sym (value_as_state (λ k. cond (is_some (m.outline.kind k)) (v k) 0) n (m.outline_laws.names n e) ∙ cond-true (is_some (m.outline.kind n)) (v n) 0 e),
         );

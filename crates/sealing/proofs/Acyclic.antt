@@ -9,8 +9,7 @@ use Rattle.theory.specs.Members.{Member}
 use Rattle.theory.proofs.Runs.{initial_reachable}
 use Rattle.units.specs.Sealing.{awaits_atom, circular}
 use Rattle.reactive.proofs.Chains.{chain_through}
-use Rattle.reactive.proofs.Order.{atoms_in_order}
-use Rattle.reactive.proofs.Sorting.{Sorted}
+use Rattle.reactive.proofs.Order.{Sorted, atoms_in_order}
 use Rattle.sealing.specs.Orders.{InOrder, AtomsInOrder, NoneCircular, waits_for, ready, NeverStuck}
 
 module _ (m : Meaning) (clear : NoneCircular m.outline) (awaits : ℕ → ℕ → Bool) (agree : (a b : ℕ) → a < m.outline.atoms → b < m.outline.atoms → awaits a b ≡ awaits_atom m.outline a b) where
