@@ -283,7 +283,7 @@ module _ (l r : Meaning) where
           told None true e = inr (sym (same_refusal TooWide refusal e))
           told None false e = absurd (none_not_some refusal e)
 
-      judged_join : JudgedJoin l r
+      judged_join : JudgedJoin P Q (l.outline.atoms + r.outline.atoms) (Limits m) (verdict m)
       judged_join =
           let c = lowest (clashes l.outline r.outline) 32 in
           let d = lowest (differs l.outline r.outline) 32 in
@@ -305,7 +305,7 @@ module _ (l r : Meaning) where
                   λ h. told.1 ((eleven c d full).1 (none_clash.1 (apart_iff.1 h.0), none_differ.1 (values_iff.1 h.1), lt-ltb 16 (l.outline.atoms + r.outline.atoms) h.2)),
                 );
             circle = circle;
-            limits = limits;
+            limited = limits;
           }
 
 pub joins_refused : JoinsAreRefusedAsPublished

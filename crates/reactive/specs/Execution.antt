@@ -11,7 +11,8 @@ Once (x ∷ later) = (Among x later → ⊥) × Once later
 
 abbrev pub Consistent : (P : Module) → List P.Index → Type 0
 Consistent P [] = Unit {0}
-Consistent P (i ∷ later) = ((j : P.Index) (x : ℕ) → Among j later → (P.atom i).awaits x → (P.atom j).controls x → ⊥) × Consistent P later
+Consistent P (i ∷ later) =
+    ((j : P.Index) (x : ℕ) → Among j later → (P.atom i).awaits x → (P.atom j).controls x → ⊥) × Consistent P later
 
 pub record IsOrder (P : Module) (order : List P.Index) : Type 0 where
   pub complete : (i : P.Index) → Among i order
@@ -24,7 +25,8 @@ pub record Acts (A : Atom) (act : Valuation → Valuation → Type 0) (v u : Val
   pub kept : (x : ℕ) → (A.controls x → ⊥) → v x ≡ u x
 
 -- The atoms of the list act one after the other, from v to values that are those of t.
-abbrev pub ActInTurn : (P : Module) → (P.Index → Valuation → Valuation → Type 0) → List P.Index → Valuation → Valuation → Type 0
+abbrev pub ActInTurn : (P : Module) → (P.Index → Valuation → Valuation → Type 0) →
+    List P.Index → Valuation → Valuation → Type 0
 ActInTurn P act [] v t = Agree (Variable P) v t
 ActInTurn P act (i ∷ later) v t = (u : Valuation) × Acts (P.atom i) (act i) v u × ActInTurn P act later u t
 
@@ -38,5 +40,7 @@ pub record LeadsTheSame (P : Module) (order : List P.Index) : Type 0 where
 
 -- Whatever values the external variables are given, a first round leads somewhere, and so does a later one from any state.
 pub record CanBeCompleted (P : Module) : Type 0 where
-  pub first : (given : Valuation) → Typed P.typed P.external given → (t : Valuation) × IsInitial P t × Agree P.external given t
-  pub later : (s given : Valuation) → IsState P s → Typed P.typed P.external given → (t : Valuation) × Follows P s t × Agree P.external given t
+  pub first : (given : Valuation) → Typed P.typed P.external given →
+      (t : Valuation) × IsInitial P t × Agree P.external given t
+  pub later : (s given : Valuation) → IsState P s → Typed P.typed P.external given →
+      (t : Valuation) × Follows P s t × Agree P.external given t

@@ -6,18 +6,26 @@ use Rattle.units.specs.Units.{UnitModel, verdict_of, seal, rename_unit, hide_uni
 use Rattle.reactive.specs.Limits.{Limits}
 use Rattle.reactive.specs.Modules.{module_of}
 use Rattle.reactive.specs.Operations.{composed, renamed_module, hidden_module}
-use Rattle.reactive.specs.Reactive.{IsModule}
+use Rattle.reactive.specs.Reactive.{Module, IsModule}
 
--- A unit is fit exactly when its drawing has no fault, its module, which for a pile is the renamed, hidden or composed
--- one, is a reactive module, the drawing stays within the limits, and not more than eight claims were brought.
+-- A drawing without fault whose module is to be P, to which so many claims are brought: P is a reactive module, the drawing
+-- stays within the limits, and the claims are not more than eight.
+pub record FitAs (m : Meaning) (P : Module) (claims : ℕ) : Type 0 where
+  pub sound : m.outline.fault ≡ None
+  pub fine : IsModule P
+  pub limits : Limits m
+  pub few : claims ≤ 8
+
+-- A unit is fit exactly when this holds of its drawing, of the module that the drawing means, for a pile the renamed, hidden
+-- or composed one of what it is made of, and of the claims that those brought.
 pub record UnitsAreFitExactlyWhenModulesWithinLimits : Type 0 where
-  pub sealed : (m : Meaning) (number : ℕ) → (verdict_of (seal m number) ≡ None) ↔ ((m.outline.fault ≡ None) × IsModule (module_of m) × Limits m)
+  pub sealed : (m : Meaning) (number : ℕ) → (verdict_of (seal m number) ≡ None) ↔ FitAs m (module_of m) 0
   pub renames : (u : UnitModel) (a b : ℕ) →
       (verdict_of (rename_unit u a b) ≡ None) ↔
-      (((renamed u.meaning a b).outline.fault ≡ None) × IsModule (renamed_module (module_of u.meaning) a b) × Limits (renamed u.meaning a b) × (length u.claims ≤ 8))
+      FitAs (renamed u.meaning a b) (renamed_module (module_of u.meaning) a b) (length u.claims)
   pub hides : (u : UnitModel) (n : ℕ) →
       (verdict_of (hide_unit u n) ≡ None) ↔
-      (((hidden u.meaning n).outline.fault ≡ None) × IsModule (hidden_module (module_of u.meaning) n) × Limits (hidden u.meaning n) × (length u.claims ≤ 8))
+      FitAs (hidden u.meaning n) (hidden_module (module_of u.meaning) n) (length u.claims)
   pub joins : (l r : UnitModel) →
       (verdict_of (join_units l r) ≡ None) ↔
-      (((joined l.meaning r.meaning).outline.fault ≡ None) × IsModule (composed (module_of l.meaning) (module_of r.meaning)) × Limits (joined l.meaning r.meaning) × (length l.claims + length r.claims ≤ 8))
+      FitAs (joined l.meaning r.meaning) (composed (module_of l.meaning) (module_of r.meaning)) (length l.claims + length r.claims)

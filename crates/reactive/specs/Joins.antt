@@ -1,5 +1,5 @@
 -- Which joins of modules are refused, and with what: the conditions under which modules may be composed.
-use Rattle.std.specs.Prelude.{◌≡◌, ℕ, ◌+◌, ◌<◌, ◌≤◌, ◌⊎◌, ◌↔◌, Some, None}
+use Rattle.std.specs.Prelude.{◌≡◌, ℕ, ◌+◌, ◌<◌, ◌≤◌, ◌⊎◌, ◌↔◌, Some, None, Option}
 use Rattle.composition.specs.Meanings.{joined}
 use Rattle.model.specs.Faults.{own}
 use Rattle.model.specs.Meanings.{Meaning}
@@ -24,25 +24,25 @@ pub record Least (X : ℕ → Type 0) (n : ℕ) : Type 0 where
   pub there : X n
   pub none_lower : (k : ℕ) → k < n → X k → ⊥
 
--- What a join of two modules is answered with when it is sealed.
-pub record JudgedJoin (l r : Meaning) : Type 0 where
-  -- it is fit exactly when the two are compatible, have at most 16 atoms together, and the join keeps the limits
-  pub fit : (verdict (joined l r) ≡ None) ↔ (Compatible (module_of l) (module_of r) × (l.outline.atoms + r.outline.atoms ≤ 16) × Limits (joined l r))
+-- What sealing answers of a join of P and Q, with so many atoms together.
+pub record JudgedJoin (P Q : Module) (together : ℕ) (limits : Type 0) (answer : Option Refusal) : Type 0 where
+  -- it is fit exactly when the two are compatible, have at most 16 atoms, and the join keeps the limits
+  pub fit : (answer ≡ None) ↔ (Compatible P Q × (together ≤ 16) × limits)
   -- 9: names are not apart; the place is the lowest that clashes
-  pub clash : (n : ℕ) → (verdict (joined l r) ≡ Some (FaultyDrawing (own 9 n))) ↔ Least (Clashes (module_of l) (module_of r)) n
+  pub clash : (n : ℕ) → (answer ≡ Some (FaultyDrawing (own 9 n))) ↔ Least (Clashes P Q) n
   -- 10: they are, and a variable of both has not the same values; the place is the lowest of these
-  pub values : (n : ℕ) → (verdict (joined l r) ≡ Some (FaultyDrawing (own 10 n))) ↔ (NamesApart (module_of l) (module_of r) × Least (Differs (module_of l) (module_of r)) n)
+  pub values : (n : ℕ) → (answer ≡ Some (FaultyDrawing (own 10 n))) ↔ (NamesApart P Q × Least (Differs P Q) n)
   -- 11: none of this, but more than 16 atoms
-  pub atoms : (verdict (joined l r) ≡ Some (FaultyDrawing (own 11 0))) ↔
-      (NamesApart (module_of l) (module_of r) × SameValues (module_of l) (module_of r) × (16 < l.outline.atoms + r.outline.atoms))
+  pub atoms : (answer ≡ Some (FaultyDrawing (own 11 0))) ↔ (NamesApart P Q × SameValues P Q × (16 < together))
   -- 13: none of this, but awaiting in both together is not acyclic
-  pub circle : ((a : ℕ) × (verdict (joined l r) ≡ Some (AwaitsItself a))) ↔
-      (NamesApart (module_of l) (module_of r) × SameValues (module_of l) (module_of r) × (l.outline.atoms + r.outline.atoms ≤ 16) × (Acyclic (AwaitsInEither (module_of l) (module_of r)) → ⊥))
+  pub circle : ((a : ℕ) × (answer ≡ Some (AwaitsItself a))) ↔
+      (NamesApart P Q × SameValues P Q × (together ≤ 16) × (Acyclic (AwaitsInEither P Q) → ⊥))
   -- where they are compatible and have at most 16 atoms, only a limit is left to refuse them: 14 or 17
-  pub limits : Compatible (module_of l) (module_of r) → l.outline.atoms + r.outline.atoms ≤ 16 → (refusal : Refusal) → verdict (joined l r) ≡ Some refusal →
+  pub limited : Compatible P Q → together ≤ 16 → (refusal : Refusal) → answer ≡ Some refusal →
       ((a : ℕ) × (refusal ≡ SeesTooMuch a)) ⊎ (refusal ≡ TooWide)
 
 -- So it is of any two drawings without fault whose modules are reactive modules.
 abbrev pub JoinsAreRefusedAsPublished : Type 0
 JoinsAreRefusedAsPublished =
-    (l r : Meaning) → l.outline.fault ≡ None → r.outline.fault ≡ None → IsModule (module_of l) → IsModule (module_of r) → JudgedJoin l r
+    (l r : Meaning) → l.outline.fault ≡ None → r.outline.fault ≡ None → IsModule (module_of l) → IsModule (module_of r) →
+    JudgedJoin (module_of l) (module_of r) (l.outline.atoms + r.outline.atoms) (Limits (joined l r)) (verdict (joined l r))

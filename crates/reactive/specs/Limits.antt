@@ -22,7 +22,8 @@ pub record Sees (o : OutlineFacts) (a : ℕ) (pair : List ℕ × List ℕ) : Typ
 pub record Way (m : Meaning) (pair : List ℕ × List ℕ) : Type 0 where
   pub given : ValuesAt m.outline (λ n. m.outline.kind n ≡ Some External) pair.0
   pub long : length pair.1 ≡ m.outline.atoms
-  pub chosen : (a : ℕ) → a < m.outline.atoms → value pair.1 a < max (m.acts.choices Initial a) (m.acts.choices Update a)
+  pub chosen : (a : ℕ) → a < m.outline.atoms →
+      value pair.1 a < max (m.acts.choices Initial a) (m.acts.choices Update a)
 
 -- No atom sees more than 65,536 combinations of values, and a round can go in no more than 1,048,576 ways.
 pub record Limits (m : Meaning) : Type 0 where

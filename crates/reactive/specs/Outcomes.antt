@@ -16,12 +16,14 @@ pub record Outcome (m : Meaning) (r : Round) (s : List ℕ) (pair : List ℕ × 
   pub long : length pair.1 ≡ m.outline.atoms
   pub there : (a : ℕ) → a < m.outline.atoms → value pair.1 a < m.acts.choices r a
   pub opened : (a : ℕ) → a < m.outline.atoms → m.acts.opens r a (value pair.1 a) (value s) (value pair.0) ≡ true
-  pub given : (a n : ℕ) → m.outline.controls a n ≡ true → m.acts.gives r a (value pair.1 a) n (value s) (value pair.0) ≡ pos (value pair.0 n)
+  pub given : (a n : ℕ) → m.outline.controls a n ≡ true →
+      m.acts.gives r a (value pair.1 a) n (value s) (value pair.0) ≡ pos (value pair.0 n)
 
 -- so many outcomes have rounds from each of the listed states, counted together, a state as often as it is listed
 abbrev pub OutcomesFrom : Meaning → List (List ℕ) → ℕ → Type 0
 OutcomesFrom m [] n = n ≡ 0
-OutcomesFrom m (s ∷ ss) n = (here : ℕ) × (others : ℕ) × Many (Outcome m Update s) here × OutcomesFrom m ss others × (n ≡ here + others)
+OutcomesFrom m (s ∷ ss) n =
+    (here : ℕ) × (others : ℕ) × Many (Outcome m Update s) here × OutcomesFrom m ss others × (n ≡ here + others)
 
 -- so many has the first round, and rounds from each of the listed states
 pub record CountedOver (m : Meaning) (ss : List (List ℕ)) (n : ℕ) : Type 0 where

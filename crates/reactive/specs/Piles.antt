@@ -16,10 +16,13 @@ use Rattle.reactive.specs.Operations.{composed, renamed_module, hidden_module, S
 pub record Composition (l r : Meaning) : Type 0 where
   pub same : SameModule (module_of (joined l r)) (composed (module_of l) (module_of r))
   pub initial : (t : List ℕ) →
-      InitialState (joined l r) t ↔ ((is_state (joined l r).outline t ≡ true) × InitialState l (projected l.outline t) × InitialState r (projected r.outline t))
+      InitialState (joined l r) t ↔
+      ((is_state (joined l r).outline t ≡ true) ×
+      InitialState l (projected l.outline t) × InitialState r (projected r.outline t))
   pub successors : (s t : List ℕ) →
       Successor (joined l r) s t ↔
-      ((is_state (joined l r).outline t ≡ true) × Successor l (projected l.outline s) (projected l.outline t) × Successor r (projected r.outline s) (projected r.outline t))
+      ((is_state (joined l r).outline t ≡ true) ×
+      Successor l (projected l.outline s) (projected l.outline t) × Successor r (projected r.outline s) (projected r.outline t))
   pub swaps : Swaps l r
 
 -- A third part may be joined after the two or before them, in either grouping.
@@ -33,7 +36,8 @@ pub record JoinsParts (l r : Meaning) : Type 0 where
 pub record Renaming (m : Meaning) (a b : ℕ) : Type 0 where
   pub same : SameModule (module_of (renamed m a b)) (renamed_module (module_of m) a b)
   pub initial : (t : List ℕ) → length t ≡ 32 → InitialState (renamed m a b) t ↔ InitialState m (exchanged a b t)
-  pub successors : (s t : List ℕ) → length t ≡ 32 → Successor (renamed m a b) s t ↔ Successor m (exchanged a b s) (exchanged a b t)
+  pub successors : (s t : List ℕ) → length t ≡ 32 →
+      Successor (renamed m a b) s t ↔ Successor m (exchanged a b s) (exchanged a b t)
   pub undone : SameAnswers (renamed (renamed m a b) b a) m
 
 abbrev pub RenamesPart : Meaning → ℕ → ℕ → Type 0

@@ -63,8 +63,10 @@ Variable P x = Controlled P x ⊎ P.external x
 
 -- An action from old values of X and new values of Y to new values of Z is a relation that concerns these alone. It is
 -- executable if at all values of X and Y it has results, finitely many, and each gives Z values of their types.
-pub record Executable (types : Types) (X Y Z : Variables) (act : Valuation → Valuation → Valuation → Type 0) : Type 0 where
-  pub concerned : (old new t old' new' t' : Valuation) → Agree X old old' → Agree Y new new' → Agree Z t t' → act old new t → act old' new' t'
+pub record Executable (types : Types) (X Y Z : Variables) (act : Valuation → Valuation → Valuation → Type 0)
+    : Type 0 where
+  pub concerned : (old new t old' new' t' : Valuation) →
+      Agree X old old' → Agree Y new new' → Agree Z t t' → act old new t → act old' new' t'
   pub result : (old new : Valuation) → Typed types X old → Typed types Y new → (t : Valuation) × act old new t
   pub typed : (old new t : Valuation) → Typed types X old → Typed types Y new → act old new t → Typed types Z t
   pub finite : (old new : Valuation) → Typed types X old → Typed types Y new →

@@ -21,12 +21,15 @@ pub record EndedAsTheModuleMay (before after : UnitModel) : Type 0 where
 
 -- An end that is accepted, of any unit that can come from the site, leaves an initial state or a successor.
 abbrev pub RoundsEndAsTheModuleMay : Type 0
-RoundsEndAsTheModuleMay = (u : UnitModel) → Came u → (slip : Slip) → Accepted (end_round u slip).answer → EndedAsTheModuleMay u (end_round u slip).unit
+RoundsEndAsTheModuleMay =
+    (u : UnitModel) → Came u → (slip : Slip) →
+    Accepted (end_round u slip).answer → EndedAsTheModuleMay u (end_round u slip).unit
 
 -- From a fit unit with claims that are all held, no round open and rounds left to count, a round of accepted calls leads
 -- to each state that may come next.
 abbrev pub RoundsLeadWhereverTheModuleMay : Type 0
 RoundsLeadWhereverTheModuleMay =
-    (u : UnitModel) → verdict_of u ≡ None → not_all_held u.claims ≡ false → round_open u.phase ≡ false → u.rounds < 4294967295 →
+    (u : UnitModel) →
+    verdict_of u ≡ None → not_all_held u.claims ≡ false → round_open u.phase ≡ false → u.rounds < 4294967295 →
     (v : Valuation) → ComesNext (module_of u.meaning) (standing_state u.phase) v →
     (t : List ℕ) × Agree (Variable (module_of u.meaning)) v (value t) × RoundTo u t

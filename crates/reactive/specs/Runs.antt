@@ -19,7 +19,8 @@ pub record TrajectoriesAgree (m : Meaning) : Type 0 where
   pub rows : (run : List Valuation) → IsTrajectory (module_of m) run →
       (told : List (List ℕ)) × Trajectory m told × AgreeAlong (Variable (module_of m)) run (map value told)
   pub published : (told : List (List ℕ)) → Trajectory m told → IsTrajectory (module_of m) (map value told)
-  pub reached_row : (v : Valuation) → IsReachable (module_of m) v → (t : List ℕ) × Reachable m t × Agree (Variable (module_of m)) v (value t)
+  pub reached_row : (v : Valuation) → IsReachable (module_of m) v →
+      (t : List ℕ) × Reachable m t × Agree (Variable (module_of m)) v (value t)
   pub reached : (t : List ℕ) → Reachable m t → IsReachable (module_of m) (value t)
 
 abbrev pub TrajectoriesAreThePublishedOnes : Type 0

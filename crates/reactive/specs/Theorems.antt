@@ -8,12 +8,14 @@ use Rattle.reactive.specs.Reactive.{Variable, IsModule}
 -- The composition of compatible modules is a module.
 abbrev pub CompatibleModulesCompose : Type 0
 CompatibleModulesCompose =
-    (d e : Description) → IsModule (described d) → IsModule (described e) → Compatible (described d) (described e) → IsModule (composed (described d) (described e))
+    (d e : Description) → IsModule (described d) → IsModule (described e) →
+    Compatible (described d) (described e) → IsModule (composed (described d) (described e))
 
 -- With a variable renamed to a name that is none, a module is a module.
 abbrev pub RenamedModulesAreModules : Type 0
 RenamedModulesAreModules =
-    (d : Description) (x y : ℕ) → IsModule (described d) → (Variable (described d) y → ⊥) → IsModule (renamed_module (described d) x y)
+    (d : Description) (x y : ℕ) → IsModule (described d) →
+    (Variable (described d) y → ⊥) → IsModule (renamed_module (described d) x y)
 
 -- With a variable hidden, a module is a module.
 abbrev pub HiddenModulesAreModules : Type 0
@@ -21,11 +23,14 @@ HiddenModulesAreModules = (d : Description) (x : ℕ) → IsModule (described d)
 
 -- The atoms of a module can be put into a consistent order.
 abbrev pub EveryModuleHasAnOrder : Type 0
-EveryModuleHasAnOrder = (d : Description) → IsModule (described d) → (order : List (described d).Index) × IsOrder (described d) order
+EveryModuleHasAnOrder =
+    (d : Description) → IsModule (described d) → (order : List (described d).Index) × IsOrder (described d) order
 
 -- A round leads to the same along every consistent order: where the actions together lead.
 abbrev pub EveryOrderLeadsTheSame : Type 0
-EveryOrderLeadsTheSame = (d : Description) → IsModule (described d) → (order : List (described d).Index) → IsOrder (described d) order → LeadsTheSame (described d) order
+EveryOrderLeadsTheSame =
+    (d : Description) → IsModule (described d) →
+    (order : List (described d).Index) → IsOrder (described d) order → LeadsTheSame (described d) order
 
 -- Every round of a module can be completed.
 abbrev pub EveryRoundCanBeCompleted : Type 0
