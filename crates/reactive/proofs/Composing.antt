@@ -2,7 +2,8 @@
 use Rattle.std.proofs.Common.{◌≡◌, ℕ, ◌⊎◌, ◌↔◌, List, ◌++◌, map, ap, inl, inr, ⊎_elim}
 use Rattle.theory.proofs.Members.{member_left, member_right, member_map}
 use Rattle.reactive.specs.Operations.{composed, NamesApart, SameValues, AwaitsInEither}
-use Rattle.reactive.specs.Reactive.{Variables, Valuation, Empty, Among, Module, Controlled, Variable, Executable, IsDeclaration, IsAtom, Awaits, Acyclic, IsModule}
+use Rattle.reactive.specs.Reactive.{Variables, Valuation, Empty, Among, Module, Controlled, Variable, Executable, IsDeclaration, IsAtom, Awaits, Acyclic, IsModule, IsState, IsInitial, Follows}
+use Rattle.reactive.specs.Theorems.{MovesAsBoth}
 use Rattle.reactive.proofs.Same.{executable_same, plus_same}
 
 alike : {A : Type 0} → A ↔ A
@@ -67,6 +68,38 @@ module _ (P Q : Module) (p : IsModule P) (q : IsModule Q) (apart : NamesApart P 
 
   right_typed : (x v : ℕ) → Variable Q x → Q.typed x v ↔ whole.typed x v
   right_typed x v here = (λ h. (λ there. (same_values x v there here).1 h, λ _. h), λ h. h.1 here)
+
+  state_both : (s : Valuation) → IsState whole s ↔ (IsState P s × IsState Q s)
+  state_both s = (
+    λ h. (λ x v. (h x (left_variable x v)).0 v, λ x v. (h x (right_variable x v)).1 v),
+    λ h x v. (h.0 x, h.1 x),
+  )
+
+  initial_both : (s : Valuation) → IsInitial whole s ↔ (IsInitial P s × IsInitial Q s)
+  initial_both s = (
+    λ h. let both = (state_both s).0 h.state in (record { state = both.0; led = λ i. h.led (inl i) }, record { state = both.1; led = λ j. h.led (inr j) }),
+    λ h. record { state = (state_both s).1 (h.0.state, h.1.state); led = led h.0 h.1 },
+  )
+    where
+      led : IsInitial P s → IsInitial Q s → (i : P.Index ⊎ Q.Index) → (whole.atom i).init s s
+      led h k (inl i) = h.led i
+      led h k (inr j) = k.led j
+
+  follows_both : (s t : Valuation) → Follows whole s t ↔ (Follows P s t × Follows Q s t)
+  follows_both s t = (
+    λ h.
+        let old = (state_both s).0 h.before in
+        let new = (state_both t).0 h.state in
+        (record { before = old.0; state = new.0; led = λ i. h.led (inl i) }, record { before = old.1; state = new.1; led = λ j. h.led (inr j) }),
+    λ h. record { before = (state_both s).1 (h.0.before, h.1.before); state = (state_both t).1 (h.0.state, h.1.state); led = led h.0 h.1 },
+  )
+    where
+      led : Follows P s t → Follows Q s t → (i : P.Index ⊎ Q.Index) → (whole.atom i).update s t t
+      led h k (inl i) = h.led i
+      led h k (inr j) = k.led j
+
+  pub moves_as_both : MovesAsBoth P Q
+  moves_as_both = record { states = state_both; initial = initial_both; successors = follows_both }
 
   moved : (R : Module) → ((x v : ℕ) → Variable R x → R.typed x v ↔ whole.typed x v) → (X Y Z : Variables) (act : Valuation → Valuation → Valuation → Type 0) →
       ((x : ℕ) → X x → Variable R x) → ((x : ℕ) → Y x → Variable R x) → ((x : ℕ) → Z x → Variable R x) →

@@ -7,7 +7,7 @@ ghost use Rattle.reactive.specs.FitUnits.{UnitsAreFitExactlyWhenModulesWithinLim
 ghost use Rattle.reactive.specs.Joins.{JoinsAreRefusedAsPublished};
 ghost use Rattle.reactive.specs.Rounds.{RoundsEndAsTheModuleMay, RoundsLeadWhereverTheModuleMay};
 ghost use Rattle.reactive.specs.Runs.{TrajectoriesAreThePublishedOnes, ReachableStatesCanBeListed};
-ghost use Rattle.reactive.specs.Theorems.{CompatibleModulesCompose, RenamedModulesAreModules, HiddenModulesAreModules, EveryModuleHasAnOrder, EveryOrderLeadsTheSame, EveryRoundCanBeCompleted};
+ghost use Rattle.reactive.specs.Theorems.{CompatibleModulesCompose, CompositionsMoveAsBoth, RenamedModulesAreModules, HiddenModulesAreModules, EveryModuleHasAnOrder, EveryOrderLeadsTheSame, EveryRoundCanBeCompleted};
 ghost use Rattle.reactive.specs.Piles.{JoinsAreMadeOfParts, RenamesAreMadeOfParts, HidesAreMadeOfParts};
 
 // Theorems of reactive modules
@@ -15,6 +15,11 @@ ghost use Rattle.reactive.specs.Piles.{JoinsAreMadeOfParts, RenamesAreMadeOfPart
 /// The composition of compatible modules is a module.
 pub fn compatible_modules_compose()
     ensures { CompatibleModulesCompose }
+{}
+
+/// The states, initial states and successors of a composition are those that both modules have.
+pub fn compositions_move_as_both()
+    ensures { CompositionsMoveAsBoth }
 {}
 
 /// With a variable renamed to a name that is none, a module is a module.
