@@ -1,0 +1,2 @@
+pub mod Composed
+pub mod Tables
