@@ -1,4 +1,4 @@
--- Joining, renaming and hiding of drawings are composition, renaming and hiding of their modules.
+-- Joining and hiding of drawings are composition and hiding of their modules.
 use mathlib.Core.HLevel.{is_prop→PathP}
 use Rattle.std.proofs.Common.{◌≡◌, ℕ, ◌+◌, ◌-◌, ◌<◌, ◌≤◌, Bool, true, false, cond, not, ◌&&◌, ◌||◌, eqb, ltb, ◌⊎◌, ◌↔◌, is_some, Some, None, Option, sym, refl, ap, ◌∙◌, subst, inl, inr, ⊎_elim, arith}
 use native.Mathlib.Bridge.{le_prop}
