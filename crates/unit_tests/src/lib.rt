@@ -6,6 +6,8 @@ mod claiming;
 #[cfg(test)]
 mod parts;
 #[cfg(test)]
+mod peterson;
+#[cfg(test)]
 mod piled;
 #[cfg(test)]
 mod tables;

@@ -6,7 +6,7 @@ use samples::{faulty, not};
 use units::Refusal;
 
 #[test]
-fn gate_lists(rt: HostRuntime) {
+fn verdicts_on_gate_lists(rt: HostRuntime) {
     assert!(rt; is_fit(not(0, 1)), "a gate");
     assert!(rt;
         seals(
@@ -34,11 +34,11 @@ fn gate_lists(rt: HostRuntime) {
             Some(Refusal::AwaitsItself { atom: 0 }),
             (13, 0, 0)
         ),
-        "two gates round"
+        "two gates that await each other"
     );
     assert!(rt;
         seals(
-            ring_with_a_tail(),
+            ring_and_a_gate_before_it(),
             Some(Refusal::AwaitsItself { atom: 1 }),
             (13, 0, 1)
         ),
@@ -46,17 +46,20 @@ fn gate_lists(rt: HostRuntime) {
     );
 }
 
-// Fourteen gates that await each other, the last one the barrier, those that wait longest first.
+// Fourteen gates in a chain, each awaiting the next and the last one an external name, joined from two parts.
 #[test]
 fn fourteen_atoms_in_a_row(rt: HostRuntime) {
     assert!(rt;
-        is_fit(Join::new(waiting(0, false), waiting(7, true))),
+        is_fit(Join::new(chain(0, false), chain(7, true))),
         "no ring"
     );
 }
 
-// Sixteen gates, each with a name of its own, of one wire.
+// Sixteen gates of one external name, each with an out of its own, joined from two parts.
 #[test]
-fn sixteen_atoms_on_one_wire(rt: HostRuntime) {
-    assert!(rt; is_fit(Join::new(scattered(0), scattered(17))), "one wire");
+fn sixteen_atoms_of_one_name(rt: HostRuntime) {
+    assert!(rt;
+        is_fit(Join::new(eight_of_one_name(0), eight_of_one_name(17))),
+        "one external name"
+    );
 }

@@ -58,7 +58,7 @@ fn later_gives(value: u8) -> Table {
 }
 
 #[test]
-fn the_width_and_what_is_seen(rt: HostRuntime) {
+fn limits_on_width_and_on_what_is_seen(rt: HostRuntime) {
     assert!(rt; is_fit(externals(20, 1)), "twenty external bits");
     assert!(rt;
         seals(externals(21, 1), Some(Refusal::TooWide), (17, 0, 0)),
@@ -80,7 +80,7 @@ fn the_width_and_what_is_seen(rt: HostRuntime) {
 }
 
 #[test]
-fn control_and_choices(rt: HostRuntime) {
+fn verdicts_on_control_and_choices(rt: HostRuntime) {
     assert!(rt; is_fit(toggle(1)), "the toggle");
     assert!(rt;
         seals(
@@ -135,12 +135,12 @@ fn control_and_choices(rt: HostRuntime) {
 }
 
 // Is this an update at this old value of name 0?
-fn is_update_at(sight: Option<Witness>, old: u8) -> bool {
-    sight.is_some_and(|sight| sight.round == Round::Update && sight.old[0] == old)
+fn is_update_at(witness: Option<Witness>, old: u8) -> bool {
+    witness.is_some_and(|witness| witness.round == Round::Update && witness.old[0] == old)
 }
 
 #[test]
-fn witnesses(rt: HostRuntime) {
+fn values_at_which_an_atom_fails(rt: HostRuntime) {
     assert!(rt;
         is_update_at(outside_at(&toggle(2), 0), 0),
         "2 less 0 is out of range"
