@@ -1,4 +1,7 @@
+pub mod Accepted
 pub mod Calls
+pub mod Judged
 pub mod Marking
+pub mod Ordering
 pub mod Reading
 pub mod Sealing

@@ -1,5 +1,6 @@
 -- What a new unit keeps, and what its verdict tells of the drawing.
 use Rattle.std.proofs.Common.{◌≡◌, ℕ, Bool, false, List, [], map, replicate, slice_get, Some, None, Option, sym, refl, ap, ◌∙◌, subst, arith}
+use Rattle.model.specs.Rows.{listed}
 use Rattle.model.specs.Meanings.{OutlineFacts, Meaning}
 use Rattle.units.specs.Sealing.{verdict, if_so, ◌else◌}
 use Rattle.units.specs.Life.{Came, by_seal}
@@ -39,7 +40,9 @@ kept_unfit v o order r e h = h ∙ sym (ap (λ w. order_kept w o) e)
 
 -- a table without claims has none that sees too much
 pub none_see : (m : Meaning) (cs : Claims) → cs.table.items ≡ [] → ClaimsSee m cs
-none_see m cs e number c there = let z : ◌≡◌ {A = ℕ} 0 1 = let gone : None ≡ Some c = sym (ap (λ items. slice_get items number) e) ∙ there in cc in absurd (omega arith)
+none_see m cs e number bs there =
+    let z : ◌≡◌ {A = ℕ} 0 1 = let gone : None ≡ Some bs = sym (ap (λ items. slice_get (map (λ c. listed c.bytes) items) number) e) ∙ there in cc in
+    absurd (omega arith)
 
 -- outside of a round no atom has fired
 pub idle_fired : (p : states.Phase) → phase_of p ≡ idle → (atoms : ℕ) → NoneBeyond atoms p
@@ -51,10 +54,11 @@ pub sealed_model : (m : Meaning) (number : ℕ) (s : UnitState) (none : Claims) 
 sealed_model m number s none e model = model ∙ ap (λ items. new_unit m number 0 false (map claim_of items)) e
 
 -- a sealed unit keeps what every unit keeps
-pub sealed_invariant : (m : Meaning) (number : ℕ) (s : UnitState) → model_of m s ≡ seal m number → s.verdict ≡ verdict_with m false → s.order ≡ order_kept s.verdict m.outline → ClaimsSee m s.claims → UnitInvariant m s
-sealed_invariant m number s model judged ordered see = record {
+pub sealed_invariant : (m : Meaning) (number : ℕ) (s : UnitState) → model_of m s ≡ seal m number → s.verdict ≡ verdict_with m false → s.order ≡ order_kept s.verdict m.outline → (s.verdict ≡ None → AtomsInOrder m.outline s.order) → ClaimsSee m s.claims → UnitInvariant m s
+sealed_invariant m number s model judged ordered in_order see = record {
   judged = judged ∙ sym (ap verdict_of model);
   ordered = ordered;
+  in_order = λ fit. ∣ in_order fit ∣₁;
   fired = idle_fired s.phase (ap (λ u. u.phase) model) m.outline.atoms;
   claims_see = see;
   came = ∣ subst Came (sym model) (by_seal m number) ∣₁;

@@ -31,6 +31,10 @@ claim_made (bad place) = None
 abbrev pub claims_of : Claims → List units.Claim
 claims_of cs = map claim_of cs.table.items
 
+-- the claims as they were written
+abbrev pub written_claims : Claims → List (List ℕ)
+written_claims cs = map (λ c. listed c.bytes) cs.table.items
+
 -- the claims with another one under this number
 abbrev pub with_claim : Claims → ℕ → Claim → Claims
 with_claim cs number c = record { table = with_item cs.table number c }

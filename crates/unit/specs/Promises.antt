@@ -1,5 +1,5 @@
--- What sealing promises.
-use Rattle.std.specs.Prelude.{◌≡◌, ℕ, ◌↔◌, List, None, Option}
+-- What units promise, in the subject's words.
+use Rattle.std.specs.Prelude.{◌≡◌, ℕ, ◌↔◌, false, List, Some, None, Option, slice_get}
 use Rattle.std.specs.Option.{option_map}
 use Rattle.model.specs.Faults.{numbers_of}
 use Rattle.model.specs.Meanings.{Meaning}
@@ -9,6 +9,9 @@ use Rattle.reactive.specs.Limits.{Limits}
 use Rattle.reactive.specs.Modules.{module_of}
 use Rattle.reactive.specs.Reactive.{IsModule}
 use Rattle.reactive.specs.Statements.{CompletesRounds}
+use Rattle.units.specs.Accepted.{BreakingRun, Certificate}
+use Rattle.units.specs.Evidence.{states_in, wrong_size}
+use Rattle.units.specs.Units.{Claim, UnitModel, holds, verdict_of}
 use Rattle.units.specs.Refusals.{refusal_fault}
 use Rattle.units.specs.declared.refusal.Refusal.{Refusal}
 use Rattle.unit.specs.declared.state.UnitState.{UnitState}
@@ -29,3 +32,19 @@ verdict_numbers v = numbers_of (option_map refusal_fault v)
 -- the number told is 0 exactly when there is nothing wrong
 abbrev pub ZeroWhenFit : Option Refusal → Type 0
 ZeroWhenFit v = ((verdict_numbers v).0 ≡ 0) ↔ (v ≡ None)
+
+-- The bytes list a certificate for the claim with this number, on a fit unit.
+pub record Certifies (u : UnitModel) (number : ℕ) (bs : List ℕ) : Type 0 where
+  pub fit : verdict_of u ≡ None
+  pub claim : Claim
+  pub there : slice_get u.claims number ≡ Some claim
+  pub right_size : wrong_size bs ≡ false
+  pub certificate : Certificate u.meaning (holds claim) (states_in bs)
+
+-- The bytes list a run that breaks the claim with this number, on a fit unit.
+pub record Breaks (u : UnitModel) (number : ℕ) (bs : List ℕ) : Type 0 where
+  pub fit : verdict_of u ≡ None
+  pub claim : Claim
+  pub there : slice_get u.claims number ≡ Some claim
+  pub right_size : wrong_size bs ≡ false
+  pub run : BreakingRun u.meaning (holds claim) (states_in bs)

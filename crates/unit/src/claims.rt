@@ -7,8 +7,8 @@ ghost use Rattle.unit.specs.Truths.{is_truth};
 ghost use Rattle.units.specs.Units.{claim_sight};
 
 use arrayvec::ArrayVec;
-use expression::{Seen, check_truth};
-use model::{Drawing, Names, Row};
+use expression::{Seen, check_truth, truth_value};
+use model::{Drawing, Names, Row, State};
 
 /// What evidence has shown of a claim.
 #[derive(Clone, Copy, PartialEq, Eq, Debug)]
@@ -65,7 +65,7 @@ impl Claim {
     ghost use Rattle.std.specs.Prelude.{IfSome};
     ghost use Rattle.std.specs.Option.{option_map};
     ghost use Rattle.unit.specs.Claims.{claim_made, claim_of};
-    ghost use Rattle.units.specs.Units.{claim_reading};
+    ghost use Rattle.units.specs.Units.{claim_reading, holds};
 
     /// The claim that the bytes make on a drawing's module, with its mark open; None where they are not one truth of 1 to 64 bytes
     /// and at most eight levels that sees old values of the module's variables alone.
@@ -80,6 +80,13 @@ impl Claim {
             mark: Mark::Open,
         })
     }
+
+    /// Does the claim hold in this state?
+    pub fn holds(&self, state: State) -> bool
+        ensures { result ≡ holds (claim_of self.now) state }
+    {
+        truth_value(self.bytes.as_slice(), state, [0; 32])
+    }
 }
 
 /// The claims by number, at most eight, in a table that takes no heap.
@@ -89,8 +96,8 @@ pub struct Claims {
 }
 
 impl Claims {
-    ghost use Rattle.std.specs.Prelude.{◌++◌, false, length, nat_le};
-    ghost use Rattle.unit.specs.Claims.{ClaimLent, LendsClaim, claims_of, mark_of};
+    ghost use Rattle.std.specs.Prelude.{◌++◌, false, length, nat_le, option_copied, slice_get};
+    ghost use Rattle.unit.specs.Claims.{ClaimLent, LendsClaim, claims_of, mark_of, written_claims};
     ghost use Rattle.units.specs.Units.{claims_marked};
 
     pub fn none() -> Claims
@@ -99,6 +106,13 @@ impl Claims {
         Claims {
             table: ArrayVec::new(),
         }
+    }
+
+    /// The claim with this number, if there is one.
+    pub fn get(&self, number: u8) -> Option<&Claim>
+        ensures { option_copied result ≡ slice_get self.now.table.items number }
+    {
+        self.table.as_slice().get(usize::from(number))
     }
 
     /// The claim with this number, lent for change; None where there is no such claim.
@@ -128,7 +142,8 @@ impl Claims {
 
     /// Sets the mark of the claim with this number, where it stands. Without such a claim nothing changes.
     pub fn mark(&mut self, number: u8, mark: Mark)
-        ensures { claims_of self.new ≡ claims_marked number (mark_of mark) (claims_of self.old) }
+        ensures marked { claims_of self.new ≡ claims_marked number (mark_of mark) (claims_of self.old) }
+        ensures written { written_claims self.new ≡ written_claims self.old }
     {
         if let Some(claim) = self.claim_mut(number) {
             claim.mark = mark;

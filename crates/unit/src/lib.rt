@@ -2,6 +2,7 @@
 #![tactic(auto)]
 
 mod claims;
+mod listing;
 mod phase;
 mod state;
 mod unit;

@@ -3,9 +3,11 @@ ghost use Rattle.std.specs.Prelude.{◌≡◌, true, length};
 ghost use Rattle.unit.specs.Phases.{sized};
 ghost use Rattle.units.specs.Units.{verdict_with};
 
-use crate::claims::{Claim, Claims};
+use crate::claims::{Claim, Claims, Mark};
+use evidence::{judge_certificate, judge_run};
+use crate::listing::states_in;
 use crate::phase::Phase;
-use model::Drawing;
+use model::{Drawing, State};
 use sealing::{judge, order_of};
 use units::Refusal;
 
@@ -42,13 +44,13 @@ fn verdict_with<D: Drawing>(drawing: &D, crowded: bool) -> Option<Refusal>
 }
 
 impl UnitState {
-    ghost use Rattle.unit.specs.Claims.{claims_of};
-    ghost use Rattle.unit.specs.Invariants.{ClaimsSee, order_kept};
-    ghost use Rattle.unit.specs.Calls.{ClaimJudged, answer_of, let_through, phase_refusal};
+    ghost use Rattle.unit.specs.Claims.{claim_of, claims_of, written_claims};
+    ghost use Rattle.unit.specs.Invariants.{ClaimsSee, UnitInvariant, order_kept};
+    ghost use Rattle.unit.specs.Calls.{ClaimJudged, answer_of, certificate_judged, let_through, phase_refusal, run_judged};
     ghost use Rattle.sealing.specs.Orders.{AtomsInOrder};
     ghost use Rattle.unit.specs.Phases.{phase_of};
     ghost use Rattle.unit.specs.States.{SameButClaims, model_of, new_unit};
-    ghost use Rattle.units.specs.Units.{claim, verdict_of};
+    ghost use Rattle.units.specs.Units.{certify, claim, holds, refute, verdict_of};
 
     /// The state of a unit that is made anew of a drawing and of the claims brought to it, which are left out where it is unfit.
     /// It is idle.
@@ -140,5 +142,76 @@ impl UnitState {
     {
         let claim = self.claim_on(drawing, bytes)?;
         Ok(self.claims.add(claim))
+    }
+
+    // The count that the states, as a certificate, are answered with.
+    fn certificate_count<D: Drawing>(&self, drawing: &D, number: u8, bytes: &[u8]) -> Result<u32, Refusal>
+        requires { UnitInvariant (D.Drawing.meaning drawing.now) self.now }
+        ensures {
+            result ≡ certificate_judged (model_of (D.Drawing.meaning drawing.now) self.now) number bytes.now }
+    {
+        self.fit()?;
+        self.allow(Call::Certify)?;
+        let claim = self.claims.get(number).ok_or(Refusal::NoSuchClaim)?;
+        let states = states_in(bytes).ok_or(Refusal::WrongSize)?;
+        judge_certificate(
+            drawing,
+            &self.order,
+            states,
+            |state: State| -> bool
+                ensures { result ≡ holds (claim_of claim.entry.now) state }
+            { claim.holds(state) },
+        )
+    }
+
+    // The length of the states as a run that breaks the claim.
+    fn run_length<D: Drawing>(&self, drawing: &D, number: u8, bytes: &[u8]) -> Result<u32, Refusal>
+        requires { UnitInvariant (D.Drawing.meaning drawing.now) self.now }
+        ensures {
+            result ≡ run_judged (model_of (D.Drawing.meaning drawing.now) self.now) number bytes.now }
+    {
+        self.fit()?;
+        self.allow(Call::Refute)?;
+        let claim = self.claims.get(number).ok_or(Refusal::NoSuchClaim)?;
+        let states = states_in(bytes).ok_or(Refusal::WrongSize)?;
+        judge_run(
+            drawing,
+            states,
+            |state: State| -> bool
+                ensures { result ≡ holds (claim_of claim.entry.now) state }
+            { claim.holds(state) },
+        )
+    }
+
+    /// Judges states as a certificate for the claim with this number, marks it held, and answers the count.
+    pub fn certify<D: Drawing>(&mut self, drawing: &D, number: u8, bytes: &[u8]) -> Result<u32, Refusal>
+        requires { UnitInvariant (D.Drawing.meaning drawing.now) self.old }
+        ensures answer {
+            answer_of result ≡ (certify (model_of (D.Drawing.meaning drawing.now) self.old) number bytes.now).answer }
+        ensures unit {
+            model_of (D.Drawing.meaning drawing.now) self.new
+                ≡ (certify (model_of (D.Drawing.meaning drawing.now) self.old) number bytes.now).unit }
+        ensures others { SameButClaims self.old self.new }
+        ensures written { written_claims self.new.claims ≡ written_claims self.old.claims }
+    {
+        let count = self.certificate_count(drawing, number, bytes)?;
+        self.claims.mark(number, Mark::Held);
+        Ok(count)
+    }
+
+    /// Judges states as a run that breaks the claim with this number, marks it broken, and answers the run's length.
+    pub fn refute<D: Drawing>(&mut self, drawing: &D, number: u8, bytes: &[u8]) -> Result<u32, Refusal>
+        requires { UnitInvariant (D.Drawing.meaning drawing.now) self.old }
+        ensures answer {
+            answer_of result ≡ (refute (model_of (D.Drawing.meaning drawing.now) self.old) number bytes.now).answer }
+        ensures unit {
+            model_of (D.Drawing.meaning drawing.now) self.new
+                ≡ (refute (model_of (D.Drawing.meaning drawing.now) self.old) number bytes.now).unit }
+        ensures others { SameButClaims self.old self.new }
+        ensures written { written_claims self.new.claims ≡ written_claims self.old.claims }
+    {
+        let length = self.run_length(drawing, number, bytes)?;
+        self.claims.mark(number, Mark::Broken);
+        Ok(length)
     }
 }

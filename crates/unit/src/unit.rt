@@ -1,10 +1,10 @@
 //! Units.
-ghost use Rattle.unit.specs.Calls.{answer_of};
+ghost use Rattle.unit.specs.Calls.{answer_of, certify_numbers};
 ghost use Rattle.unit.specs.Invariants.{UnitInvariant};
 ghost use Rattle.unit.specs.States.{model_of};
-ghost use Rattle.unit.specs.Promises.{SealedRightly, ZeroWhenFit, verdict_numbers};
-ghost use Rattle.units.specs.Units.{claim, seal, verdict_of};
-ghost use Rattle.std.specs.Prelude.{◌≡◌};
+ghost use Rattle.unit.specs.Promises.{Breaks, Certifies, SealedRightly, ZeroWhenFit, verdict_numbers};
+ghost use Rattle.units.specs.Units.{certify, claim, refute, seal, verdict_of};
+ghost use Rattle.std.specs.Prelude.{◌≡◌, ◌↔◌, IsOk};
 
 use crate::claims::Claims;
 use crate::state::UnitState;
@@ -75,5 +75,65 @@ impl<D: Drawing> Unit<D> {
         ensures drawing { self.new.drawing ≡ self.old.drawing }
     {
         self.state.claim(&self.drawing, bytes)
+    }
+
+    /// Judges the states that bytes list, 32 bytes each and in any order, as a certificate for the claim with this number: states of
+    /// the module in which the claim holds, 1 to 2,048 of them, with every initial state and every successor of each. An accepted
+    /// certificate marks the claim held; the answer counts the pairs of a state and a choice for each atom yielding it, over initial
+    /// states and over the successors of each listed state. Refused, in this order, with what `refusal` tells, with `NoSuchClaim`,
+    /// `WrongSize`, `NotAState`, `FalseIn`, `InitialStateMissing`, `SuccessorMissing`; then the unit stays as it was.
+    pub fn accept_certificate(&mut self, number: u8, bytes: &[u8]) -> Result<u32, Refusal>
+        ensures answer {
+            answer_of result
+                ≡ (certify (model_of (D.Drawing.meaning self.old.drawing) self.old.state) number bytes.now).answer }
+        ensures accepted {
+            IsOk result
+                ↔ Certifies (model_of (D.Drawing.meaning self.old.drawing) self.old.state) number bytes.now }
+        ensures unit {
+            model_of (D.Drawing.meaning self.new.drawing) self.new.state
+                ≡ (certify (model_of (D.Drawing.meaning self.old.drawing) self.old.state) number bytes.now).unit }
+        ensures drawing { self.new.drawing ≡ self.old.drawing }
+    {
+        self.state.certify(&self.drawing, number, bytes)
+    }
+
+    /// The same, answered as number, layer, place and count together: three times 0 before the count of an accepted certificate, and
+    /// 0 for the count of a refused one.
+    pub fn certify(&mut self, number: u8, bytes: &[u8]) -> (u8, u8, u16, u32)
+        ensures answer {
+            result
+                ≡ certify_numbers
+                    (certify (model_of (D.Drawing.meaning self.old.drawing) self.old.state) number bytes.now).answer }
+        ensures unit {
+            model_of (D.Drawing.meaning self.new.drawing) self.new.state
+                ≡ (certify (model_of (D.Drawing.meaning self.old.drawing) self.old.state) number bytes.now).unit }
+        ensures drawing { self.new.drawing ≡ self.old.drawing }
+    {
+        match self.accept_certificate(number, bytes) {
+            Ok(count) => (0, 0, 0, count),
+            Err(refusal) => {
+                let fault = Fault::from(refusal);
+                (fault.number, fault.layer, fault.place, 0)
+            }
+        }
+    }
+
+    /// Judges the states that bytes list, 32 bytes each, as a run that breaks the claim with this number: 1 to 2,048 states of the
+    /// module, the first initial, each later one a successor of the one before, and the claim false in the last. An accepted run
+    /// marks the claim broken; the answer is its length. Refused, in this order, with what `refusal` tells, with `NoSuchClaim`,
+    /// `WrongSize`, `NotAState`, `NotInitial`, `NotASuccessor`, `TrueInLast`; then the unit stays as it was.
+    pub fn refute(&mut self, number: u8, bytes: &[u8]) -> Result<u32, Refusal>
+        ensures answer {
+            answer_of result
+                ≡ (refute (model_of (D.Drawing.meaning self.old.drawing) self.old.state) number bytes.now).answer }
+        ensures accepted {
+            IsOk result
+                ↔ Breaks (model_of (D.Drawing.meaning self.old.drawing) self.old.state) number bytes.now }
+        ensures unit {
+            model_of (D.Drawing.meaning self.new.drawing) self.new.state
+                ≡ (refute (model_of (D.Drawing.meaning self.old.drawing) self.old.state) number bytes.now).unit }
+        ensures drawing { self.new.drawing ≡ self.old.drawing }
+    {
+        self.state.refute(&self.drawing, number, bytes)
     }
 }
