@@ -1,13 +1,12 @@
 -- Evidence is accepted exactly where it is a certificate, or a run that breaks the claim.
-use Rattle.std.proofs.Common.{◌≡◌, ℕ, ◌≤◌, ◌/◌, ◌%◌, ◌↔◌, Bool, true, false, List, length, map, take, drop, not, ◌||◌, ◌*◌, eqb, ltb, Some, None, Ok, Err, Option, Result, IsOk, slice_get, sym, refl, ap, ◌∙◌, subst, arith}
+use Rattle.std.proofs.Common.{◌≡◌, ℕ, ◌≤◌, ◌/◌, ◌%◌, ◌↔◌, false, List, length, take, drop, not, ◌||◌, ◌*◌, eqb, ltb, Some, None, Ok, Err, Option, Result, IsOk, slice_get, refl, ap, ◌∙◌, subst, arith}
 use Rattle.std.proofs.lemmas.Bool.{false≢true, eqb-false, eqb-true, not-false, or_parts}
 use Rattle.std.proofs.lemmas.List.{length-map}
 use Rattle.theory.specs.Enumerations.{below}
 use Rattle.theory.proofs.Enumerations.{length_below}
-use Rattle.units.specs.Accepted.{BreakingRun, Certificate}
 use Rattle.units.specs.Evidence.{certificate_refusal, run_refusal, states_in, wrong_size}
 use Rattle.units.specs.Sealing.{if_so, ◌else◌}
-use Rattle.units.specs.Units.{Answer, Claim, UnitModel, certify, certify_refusal, holds, of_claim, refute, refute_refusal, unless, verdict_of}
+use Rattle.units.specs.Units.{Claim, UnitModel, certify, certify_refusal, holds, of_claim, refute, refute_refusal, unless, verdict_of}
 use Rattle.units.specs.declared.refusal.Refusal.{Refusal}
 use Rattle.units.specs.declared.refusal.Refusal.TheVariants.{WrongSize}
 use Rattle.units.proofs.Evidence.{else_from, else_parts, if_so_parts}

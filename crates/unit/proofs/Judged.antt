@@ -1,5 +1,5 @@
 -- Evidence judged: the states that bytes list, and what is answered.
-use Rattle.std.proofs.Common.{◌≡◌, ℕ, zero, suc, ◌+◌, ◌*◌, ◌/◌, Bool, true, false, List, [], ◌∷◌, map, take, drop, length, ◌%◌, ◌≤◌, not, ◌||◌, eqb, ltb, Some, None, Ok, Err, Option, Result, sym, refl, ap, ◌∙◌, arith, add-one}
+use Rattle.std.proofs.Common.{◌≡◌, ℕ, zero, suc, ◌+◌, ◌*◌, ◌/◌, Bool, true, false, List, ◌∷◌, map, take, drop, length, ◌%◌, ◌≤◌, not, ◌||◌, eqb, ltb, Some, None, Err, Option, sym, refl, ap, ◌∙◌, arith}
 use Rattle.std.proofs.lemmas.Bool.{eq-eqb, false≢true, le-ltb, ne_eqb, true≢false}
 use Rattle.std.proofs.lemmas.List.{drop-drop}
 use Rattle.std.proofs.lemmas.Option.{slice_get-map}
@@ -9,7 +9,7 @@ use Rattle.std.specs.Simd.{first_chunks}
 use Rattle.theory.specs.Enumerations.{below}
 use Rattle.units.specs.Evidence.{states_in, wrong_size}
 use Rattle.units.specs.Sealing.{if_so, ◌else◌}
-use Rattle.units.specs.Units.{UnitModel, Claim, of_claim, verdict_of}
+use Rattle.units.specs.Units.{Claim, of_claim}
 use Rattle.units.specs.declared.refusal.Refusal.{Refusal}
 use Rattle.units.specs.declared.refusal.Refusal.TheVariants.{NoSuchClaim, WrongSize}
 use Rattle.evidence.specs.Judging.{answer_of as unless_refused}

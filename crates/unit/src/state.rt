@@ -4,9 +4,9 @@ ghost use Rattle.unit.specs.Phases.{sized};
 ghost use Rattle.units.specs.Units.{verdict_with};
 
 use crate::claims::{Claim, Claims, Mark};
-use evidence::{judge_certificate, judge_run};
 use crate::listing::states_in;
 use crate::phase::Phase;
+use evidence::{judge_certificate, judge_run};
 use model::{Drawing, State};
 use sealing::{judge, order_of};
 use units::Refusal;
@@ -145,10 +145,14 @@ impl UnitState {
     }
 
     // The count that the states, as a certificate, are answered with.
-    fn certificate_count<D: Drawing>(&self, drawing: &D, number: u8, bytes: &[u8]) -> Result<u32, Refusal>
+    fn certificate_count<D: Drawing>(
+        &self,
+        drawing: &D,
+        number: u8,
+        bytes: &[u8],
+    ) -> Result<u32, Refusal>
         requires { UnitInvariant (D.Drawing.meaning drawing.now) self.now }
-        ensures {
-            result ≡ certificate_judged (model_of (D.Drawing.meaning drawing.now) self.now) number bytes.now }
+        ensures { result ≡ certificate_judged (model_of (D.Drawing.meaning drawing.now) self.now) number bytes.now }
     {
         self.fit()?;
         self.allow(Call::Certify)?;
@@ -167,8 +171,7 @@ impl UnitState {
     // The length of the states as a run that breaks the claim.
     fn run_length<D: Drawing>(&self, drawing: &D, number: u8, bytes: &[u8]) -> Result<u32, Refusal>
         requires { UnitInvariant (D.Drawing.meaning drawing.now) self.now }
-        ensures {
-            result ≡ run_judged (model_of (D.Drawing.meaning drawing.now) self.now) number bytes.now }
+        ensures { result ≡ run_judged (model_of (D.Drawing.meaning drawing.now) self.now) number bytes.now }
     {
         self.fit()?;
         self.allow(Call::Refute)?;
@@ -184,13 +187,16 @@ impl UnitState {
     }
 
     /// Judges states as a certificate for the claim with this number, marks it held, and answers the count.
-    pub fn certify<D: Drawing>(&mut self, drawing: &D, number: u8, bytes: &[u8]) -> Result<u32, Refusal>
+    pub fn certify<D: Drawing>(
+        &mut self,
+        drawing: &D,
+        number: u8,
+        bytes: &[u8],
+    ) -> Result<u32, Refusal>
         requires { UnitInvariant (D.Drawing.meaning drawing.now) self.old }
-        ensures answer {
-            answer_of result ≡ (certify (model_of (D.Drawing.meaning drawing.now) self.old) number bytes.now).answer }
-        ensures unit {
-            model_of (D.Drawing.meaning drawing.now) self.new
-                ≡ (certify (model_of (D.Drawing.meaning drawing.now) self.old) number bytes.now).unit }
+        ensures answer { answer_of result ≡ (certify (model_of (D.Drawing.meaning drawing.now) self.old) number bytes.now).answer }
+        ensures unit { model_of (D.Drawing.meaning drawing.now) self.new
+            ≡ (certify (model_of (D.Drawing.meaning drawing.now) self.old) number bytes.now).unit }
         ensures others { SameButClaims self.old self.new }
         ensures written { written_claims self.new.claims ≡ written_claims self.old.claims }
     {
@@ -200,13 +206,16 @@ impl UnitState {
     }
 
     /// Judges states as a run that breaks the claim with this number, marks it broken, and answers the run's length.
-    pub fn refute<D: Drawing>(&mut self, drawing: &D, number: u8, bytes: &[u8]) -> Result<u32, Refusal>
+    pub fn refute<D: Drawing>(
+        &mut self,
+        drawing: &D,
+        number: u8,
+        bytes: &[u8],
+    ) -> Result<u32, Refusal>
         requires { UnitInvariant (D.Drawing.meaning drawing.now) self.old }
-        ensures answer {
-            answer_of result ≡ (refute (model_of (D.Drawing.meaning drawing.now) self.old) number bytes.now).answer }
-        ensures unit {
-            model_of (D.Drawing.meaning drawing.now) self.new
-                ≡ (refute (model_of (D.Drawing.meaning drawing.now) self.old) number bytes.now).unit }
+        ensures answer { answer_of result ≡ (refute (model_of (D.Drawing.meaning drawing.now) self.old) number bytes.now).answer }
+        ensures unit { model_of (D.Drawing.meaning drawing.now) self.new
+            ≡ (refute (model_of (D.Drawing.meaning drawing.now) self.old) number bytes.now).unit }
         ensures others { SameButClaims self.old self.new }
         ensures written { written_claims self.new.claims ≡ written_claims self.old.claims }
     {

@@ -83,15 +83,12 @@ impl<D: Drawing> Unit<D> {
     /// states and over the successors of each listed state. Refused, in this order, with what `refusal` tells, with `NoSuchClaim`,
     /// `WrongSize`, `NotAState`, `FalseIn`, `InitialStateMissing`, `SuccessorMissing`; then the unit stays as it was.
     pub fn accept_certificate(&mut self, number: u8, bytes: &[u8]) -> Result<u32, Refusal>
-        ensures answer {
-            answer_of result
-                ≡ (certify (model_of (D.Drawing.meaning self.old.drawing) self.old.state) number bytes.now).answer }
-        ensures accepted {
-            IsOk result
-                ↔ Certifies (model_of (D.Drawing.meaning self.old.drawing) self.old.state) number bytes.now }
-        ensures unit {
-            model_of (D.Drawing.meaning self.new.drawing) self.new.state
-                ≡ (certify (model_of (D.Drawing.meaning self.old.drawing) self.old.state) number bytes.now).unit }
+        ensures answer { answer_of result
+            ≡ (certify (model_of (D.Drawing.meaning self.old.drawing) self.old.state) number bytes.now).answer }
+        ensures accepted { IsOk result
+            ↔ Certifies (model_of (D.Drawing.meaning self.old.drawing) self.old.state) number bytes.now }
+        ensures unit { model_of (D.Drawing.meaning self.new.drawing) self.new.state
+            ≡ (certify (model_of (D.Drawing.meaning self.old.drawing) self.old.state) number bytes.now).unit }
         ensures drawing { self.new.drawing ≡ self.old.drawing }
     {
         self.state.certify(&self.drawing, number, bytes)
@@ -100,13 +97,11 @@ impl<D: Drawing> Unit<D> {
     /// The same, answered as number, layer, place and count together: three times 0 before the count of an accepted certificate, and
     /// 0 for the count of a refused one.
     pub fn certify(&mut self, number: u8, bytes: &[u8]) -> (u8, u8, u16, u32)
-        ensures answer {
-            result
-                ≡ certify_numbers
-                    (certify (model_of (D.Drawing.meaning self.old.drawing) self.old.state) number bytes.now).answer }
-        ensures unit {
-            model_of (D.Drawing.meaning self.new.drawing) self.new.state
-                ≡ (certify (model_of (D.Drawing.meaning self.old.drawing) self.old.state) number bytes.now).unit }
+        ensures answer { result
+            ≡ certify_numbers
+            (certify (model_of (D.Drawing.meaning self.old.drawing) self.old.state) number bytes.now).answer }
+        ensures unit { model_of (D.Drawing.meaning self.new.drawing) self.new.state
+            ≡ (certify (model_of (D.Drawing.meaning self.old.drawing) self.old.state) number bytes.now).unit }
         ensures drawing { self.new.drawing ≡ self.old.drawing }
     {
         match self.accept_certificate(number, bytes) {
@@ -123,15 +118,12 @@ impl<D: Drawing> Unit<D> {
     /// marks the claim broken; the answer is its length. Refused, in this order, with what `refusal` tells, with `NoSuchClaim`,
     /// `WrongSize`, `NotAState`, `NotInitial`, `NotASuccessor`, `TrueInLast`; then the unit stays as it was.
     pub fn refute(&mut self, number: u8, bytes: &[u8]) -> Result<u32, Refusal>
-        ensures answer {
-            answer_of result
-                ≡ (refute (model_of (D.Drawing.meaning self.old.drawing) self.old.state) number bytes.now).answer }
-        ensures accepted {
-            IsOk result
-                ↔ Breaks (model_of (D.Drawing.meaning self.old.drawing) self.old.state) number bytes.now }
-        ensures unit {
-            model_of (D.Drawing.meaning self.new.drawing) self.new.state
-                ≡ (refute (model_of (D.Drawing.meaning self.old.drawing) self.old.state) number bytes.now).unit }
+        ensures answer { answer_of result
+            ≡ (refute (model_of (D.Drawing.meaning self.old.drawing) self.old.state) number bytes.now).answer }
+        ensures accepted { IsOk result
+            ↔ Breaks (model_of (D.Drawing.meaning self.old.drawing) self.old.state) number bytes.now }
+        ensures unit { model_of (D.Drawing.meaning self.new.drawing) self.new.state
+            ≡ (refute (model_of (D.Drawing.meaning self.old.drawing) self.old.state) number bytes.now).unit }
         ensures drawing { self.new.drawing ≡ self.old.drawing }
     {
         self.state.refute(&self.drawing, number, bytes)

@@ -1,12 +1,11 @@
-use Rattle.std.proofs.Common.{rules, ◌≡◌, ℕ, ◌≤◌, Bool, false, List, length, Some, None, Ok, Option, sym, ap, ◌∙◌}
+use Rattle.std.proofs.Common.{rules, ◌≡◌, false, Some, None, Option, sym, ap, ◌∙◌}
 use Rattle.std.specs.List.{slice_get}
-use Rattle.units.specs.Evidence.{certificate_count, certificate_refusal, run_refusal, states_in, wrong_size}
+use Rattle.units.specs.Evidence.{certificate_count, certificate_refusal, states_in, wrong_size}
 use Rattle.units.specs.Units.{Claim, holds, verdict_of}
 use Rattle.units.specs.declared.refusal.Refusal.{Refusal}
-use Rattle.sealing.specs.Orders.{AtomsInOrder}
 use Rattle.units.specs.Sealing.{awaits_atom}
 use Rattle.unit.specs.Claims.{claim_of, claims_of}
-use Rattle.evidence.specs.Judging.{certificate_answer, run_answer}
+use Rattle.evidence.specs.Judging.{certificate_answer}
 use Rattle.unit.specs.States.{model_of}
 use Rattle.unit.proofs.Calls.{not_refused}
 use Rattle.unit.proofs.Judged.{claim_there, states_answer}

@@ -1,8 +1,6 @@
-use Rattle.std.proofs.Common.{rules, ◌≡◌, ℕ, length, Ok, Result, sym, ap, ◌∙◌}
+use Rattle.std.proofs.Common.{rules, ◌≡◌, Ok, sym, ap, ◌∙◌}
 use Rattle.units.specs.Evidence.{certificate_count, states_in}
 use Rattle.units.specs.Units.{held, certify_refusal, claims_marked, with_claims}
-use Rattle.units.specs.declared.refusal.Refusal.{Refusal}
-use Rattle.unit.specs.Calls.{certificate_judged, run_judged}
 use Rattle.unit.specs.States.{model_of}
 use Rattle.unit.proofs.Calls.{answered, left, spared}
 use Rattle.unit.proofs.state.UnitState.certify.Goals as goal

@@ -1,5 +1,3 @@
-use Rattle.std.proofs.Common.{subst, sym}
-use Rattle.unit.specs.Invariants.{ClaimsSee}
 use Rattle.unit.specs.States.{model_of}
 use Rattle.unit.proofs.Accepted.{certified}
 use Rattle.unit.proofs.Calls.{came_by_certify, claimed_invariant, written_see}
