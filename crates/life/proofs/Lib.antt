@@ -1,0 +1,11 @@
+pub mod Bridge
+pub mod Claims
+pub mod Evidence
+pub mod Fitness
+pub mod Judging
+pub mod Law
+pub mod Lives
+pub mod Piles
+pub mod Replies
+pub mod Rounds
+pub mod Written

@@ -1,0 +1,9 @@
+pub mod Fitness
+pub mod Histories
+pub mod Law
+pub mod Lives
+pub mod Piles
+pub mod Promises
+pub mod Reasons
+pub mod Rules
+pub mod Subject
