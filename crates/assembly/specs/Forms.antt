@@ -22,6 +22,10 @@ own_atom number controls reads awaits = record {
   in_leaf = λ n. n;
 }
 
+-- an atom of a drawing that stands by itself
+abbrev pub atom_of_leaf : OutlineFacts → ℕ → AtomFacts
+atom_of_leaf o a = own_atom a (o.controls a) (o.reads a) (o.awaits a)
+
 abbrev pub leaf_form : OutlineFacts → FormFacts
 leaf_form o = record {
   fault = o.fault;
@@ -29,7 +33,7 @@ leaf_form o = record {
   kind = o.kind;
   top = o.top;
   atoms = o.atoms;
-  atom = λ a. cond (nat_lt a o.atoms) (Some (own_atom a (o.controls a) (o.reads a) (o.awaits a))) None;
+  atom = λ a. cond (nat_lt a o.atoms) (Some (atom_of_leaf o a)) None;
 }
 
 -- a form with this fault if any: where there is one, it has no variables and no atoms

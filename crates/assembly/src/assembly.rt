@@ -1,6 +1,6 @@
 //! Piles over leaves of any one kind.
-ghost use Rattle.assembly.specs.Meanings.{form_outline, form_choices, form_meaning, leaf_meanings, Rooted};
-ghost use Rattle.assembly.specs.Plain.{form_facts};
+ghost use Rattle.assembly.specs.Meanings.{form_meaning, leaf_meanings, Rooted};
+ghost use Rattle.assembly.specs.Plain.{choices_over, form_facts, outline_of};
 ghost use Rattle.model.specs.Meanings.{OutlineLaws, ChoiceLaws};
 ghost use Rattle.std.specs.Prelude.{length};
 
@@ -14,20 +14,21 @@ use std::alloc::{AllocError, Global};
 pub struct Assembly<L: Drawing> {
     leaves: Vec<L>,
     form: Form,
-    ghost outline_laws: { OutlineLaws (form_outline (form_facts form)) },
-    ghost choice_laws: { ChoiceLaws (form_outline (form_facts form)) (form_choices (leaf_meanings L.Drawing.meaning leaves.items) (form_facts form)) },
+    ghost outline_laws: { OutlineLaws (outline_of form) },
+    ghost choice_laws: { ChoiceLaws (outline_of form) (choices_over L.Drawing.meaning leaves.items form) },
     ghost rooted: { Rooted (form_facts form) (length leaves.items) },
 }
 
 impl<L: Drawing + Drop> Assembly<L> {
     ghost use Rattle.assembly.specs.Atoms.{atom_facts};
-    ghost use Rattle.assembly.specs.Meanings.{origin, origin_from};
+    ghost use Rattle.assembly.specs.Meanings.{origin_from};
+    ghost use Rattle.assembly.specs.Plain.{origin_over};
     ghost use Rattle.composition.specs.Meanings.{renamed, hidden, joined};
     ghost use Rattle.std.specs.Prelude.{◌≡◌, IfOk, option_map};
 
     /// The drawing by itself. Where memory is wanting it is let go.
     pub fn leaf(heap: Global, drawing: L) -> Result<Assembly<L>, AllocError>
-        ensures { IfOk result (λ d. ⟦<Assembly<L> as Drawing>⟧.meaning d ≡ L.Drawing.meaning drawing) }
+        ensures { let meaning = ⟦<Assembly<L> as Drawing>⟧.meaning in IfOk result (λ d. meaning d ≡ L.meaning drawing) }
     {
         let form = Form::of_leaf(&drawing);
         let mut leaves = Vec::new(heap);
@@ -37,7 +38,7 @@ impl<L: Drawing + Drop> Assembly<L> {
 
     /// The drawing with a new name for one of its variables.
     pub fn rename(self, old: u8, new: u8) -> Assembly<L>
-        ensures { ⟦<Assembly<L> as Drawing>⟧.meaning result ≡ renamed (⟦<Assembly<L> as Drawing>⟧.meaning self) old new }
+        ensures { let meaning = ⟦<Assembly<L> as Drawing>⟧.meaning in meaning result ≡ renamed (meaning self) old new }
     {
         let form = self.form.renamed(old, new);
         Assembly {
@@ -48,7 +49,7 @@ impl<L: Drawing + Drop> Assembly<L> {
 
     /// The drawing with one of its interface names made private.
     pub fn hide(self, name: u8) -> Assembly<L>
-        ensures { ⟦<Assembly<L> as Drawing>⟧.meaning result ≡ hidden (⟦<Assembly<L> as Drawing>⟧.meaning self) name }
+        ensures { let meaning = ⟦<Assembly<L> as Drawing>⟧.meaning in meaning result ≡ hidden (meaning self) name }
     {
         let form = self.form.hidden(name);
         Assembly {
@@ -59,7 +60,7 @@ impl<L: Drawing + Drop> Assembly<L> {
 
     /// The two side by side. Atoms of the left one come first. Where memory is wanting both are let go.
     pub fn join(left: Assembly<L>, right: Assembly<L>) -> Result<Assembly<L>, AllocError>
-        ensures { IfOk result (λ d. ⟦<Assembly<L> as Drawing>⟧.meaning d ≡ joined (⟦<Assembly<L> as Drawing>⟧.meaning left) (⟦<Assembly<L> as Drawing>⟧.meaning right)) }
+        ensures { let m = ⟦<Assembly<L> as Drawing>⟧.meaning in IfOk result (λ d. m d ≡ joined (m left) (m right)) }
     {
         let form = left.form.joined(&right.form, left.leaves.len());
         let mut leaves = left.leaves;
@@ -70,7 +71,7 @@ impl<L: Drawing + Drop> Assembly<L> {
 
     // An atom, with the leaf that it comes from.
     fn origin(&self, atom: u8) -> Option<(&L, FormAtom)>
-        ensures { option_map (λ p. origin_from (atom_facts p.1) (L.Drawing.meaning p.0.now)) result ≡ origin (leaf_meanings L.Drawing.meaning self.now.leaves.items) ((form_facts self.now.form).atom atom) }
+        ensures { let found = option_map (λ p. origin_from (atom_facts p.1) (L.meaning p.0.now)) result in found ≡ origin_over L.meaning self.now.leaves.items self.now.form atom }
     {
         let atom = self.form.atom(atom)?;
         let leaf = self.leaves.get(atom.leaf())?;
@@ -79,7 +80,7 @@ impl<L: Drawing + Drop> Assembly<L> {
 }
 
 impl<L: Drawing + Drop> Outline for Assembly<L> {
-    ghost outline = { λ d. form_outline (form_facts d.form) };
+    ghost outline = { λ d. outline_of d.form };
 
     fn fault(&self) -> Option<Fault> {
         self.form.fault()

@@ -1,6 +1,6 @@
 //! A pile in normal form, without its leaves: what it tells by name, and where its atoms come from.
 ghost use Rattle.assembly.specs.Atoms.{atom_facts};
-ghost use Rattle.assembly.specs.Forms.{own_atom};
+ghost use Rattle.assembly.specs.Forms.{atom_of_leaf};
 ghost use Rattle.std.specs.Prelude.{◌≡◌, ◌≤◌};
 
 use crate::atom::FormAtom;
@@ -22,9 +22,9 @@ pub struct Form {
 }
 
 impl Form {
-    ghost use Rattle.assembly.specs.Forms.{leaf_form, renamed_atom, exchanged_form, concealed_form, paired_form, renamed_form, hidden_form, joined_form};
-    ghost use Rattle.assembly.specs.Plain.{form_facts};
-    ghost use Rattle.std.specs.Prelude.{◌≡◌, ℕ, cond, Some, None, is_some, option_map};
+    ghost use Rattle.assembly.specs.Forms.{concealed_form, hidden_form, joined_form, leaf_form, renamed_form};
+    ghost use Rattle.assembly.specs.Plain.{exchanged_facts, form_facts, paired_facts};
+    ghost use Rattle.std.specs.Prelude.{◌≡◌, ℕ, Some, None, option_map};
 
     /// The form of a drawing that stands by itself, as the first leaf.
     pub fn of_leaf<D: Drawing>(drawing: &D) -> Form
@@ -71,7 +71,7 @@ impl Form {
 
     // The atom where two names change places.
     fn renamed_atom(&self, atom: u8, exchange: Exchange) -> Option<FormAtom>
-        ensures { option_map atom_facts result ≡ option_map (renamed_atom exchange.one exchange.other) ((form_facts self.now).atom atom) }
+        ensures { option_map atom_facts result ≡ (exchanged_facts exchange self.now).atom atom }
     {
         let atom = self.atom(atom)?;
         Some(atom.renamed(exchange))
@@ -79,7 +79,7 @@ impl Form {
 
     // The form where two names change places.
     fn exchanged(&self, exchange: Exchange) -> Form
-        ensures { form_facts result ≡ exchanged_form exchange.one exchange.other (form_facts self.now) }
+        ensures { form_facts result ≡ exchanged_facts exchange self.now }
     {
         Form {
             fault: None,
@@ -133,7 +133,7 @@ impl Form {
 
     // The top of a name in the join.
     fn joined_top(&self, right: &Form, name: u8) -> u8
-        ensures { result ≡ (cond (is_some ((form_facts self.now).kind name)) ((form_facts self.now).top name) ((form_facts right.now).top name)) }
+        ensures { result ≡ (paired_facts 0 self.now right.now).top name }
     {
         if self.kind(name).is_some() {
             self.top(name)
@@ -144,7 +144,7 @@ impl Form {
 
     // An atom of the join.
     fn joined_atom(&self, right: &Form, leaves: usize, atom: u8) -> Option<FormAtom>
-        ensures { option_map atom_facts result ≡ (paired_form leaves (form_facts self.now) (form_facts right.now)).atom atom }
+        ensures { option_map atom_facts result ≡ (paired_facts leaves self.now right.now).atom atom }
     {
         if atom < self.count {
             return self.atom(atom);
@@ -175,7 +175,7 @@ impl Form {
 
 // An atom of a leaf, under the leaf's names.
 fn leaf_atom<D: Drawing>(drawing: &D, atom: u8) -> FormAtom
-    ensures { let o = (D.Drawing.meaning drawing.now).outline in atom_facts result ≡ own_atom atom (o.controls atom) (o.reads atom) (o.awaits atom) }
+    ensures { atom_facts result ≡ atom_of_leaf (D.Drawing.meaning drawing.now).outline atom }
 {
     FormAtom::own(
         atom,
