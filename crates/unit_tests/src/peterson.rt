@@ -9,6 +9,7 @@ use crate::parts::is_fit;
 use model::{Drawing, Kind, Outline, Round, State, value_of};
 use piles::{Hide, Join};
 use samples::{Moment, has_sets, opens_just};
+use std::test::Fail;
 use table::Table;
 use unit::Unit;
 
@@ -158,15 +159,6 @@ fn both_processes_and_the_protocol_are_fit(rt: HostRuntime) {
 // Not both counters are 2: as old values, since a claim sees one state.
 const NEVER_BOTH: [u8; 12] = [18, 19, 16, 1, 0, 0, 2, 16, 1, 2, 0, 2];
 
-#[test]
-fn the_claim_that_never_both_are_inside(rt: HostRuntime) {
-    let mut unit = Unit::seal(protocol(), 1);
-    assert!(rt;
-        unit.claim(&NEVER_BOTH) == Ok(0),
-        "it is a claim on the protocol"
-    );
-}
-
 // The protocol's 36 states, by number.
 fn numbered(number: u8) -> State {
     at(number / 12 % 3, number / 6 % 2, number / 2 % 3, number % 2)
@@ -235,4 +227,23 @@ fn never_both_inside(rt: HostRuntime) {
             .any(|(number, there)| there && numbered(number) == inside);
         assert!(rt; found, "one is inside");
     }
+}
+
+// The reachable states are a certificate. It counts the ways to begin, of which there are four, and those to go on from each.
+#[test]
+fn the_claim_that_never_both_are_inside_is_held(rt: HostRuntime) -> Result<(), Fail> {
+    let mut states = Vec::new(rt.alloc());
+    for (number, there) in (0..36u8).zip(reachable(&protocol())) {
+        if there {
+            states.extend_from_slice(&numbered(number))?;
+        }
+    }
+    let mut unit = Unit::seal(protocol(), 1);
+    assert!(rt;
+        unit.claim(&NEVER_BOTH) == Ok(0),
+        "it is a claim on the protocol"
+    );
+    assert_eq!(rt; unit.certify(0, states.as_slice()), (0, 0, 0, 68));
+    assert_eq!(rt; unit.certify(1, states.as_slice()), (22, 0, 0, 0));
+    Ok(())
 }
