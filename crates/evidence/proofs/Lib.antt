@@ -1,11 +1,11 @@
 pub mod Certificates
 pub mod Complete
 pub mod Counted
+pub mod Lookups
 pub mod Once
 pub mod Places
 pub mod Runs
 pub mod Sound
-pub mod StateLists
 pub mod Steps
 pub mod Sums
 pub mod Visits

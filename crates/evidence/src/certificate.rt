@@ -5,6 +5,7 @@ ghost use Rattle.units.specs.Evidence.{state_at};
 ghost use Rattle.units.specs.Sealing.{verdict};
 ghost use Rattle.evidence.specs.Judging.{Judges, certificate_answer};
 
+use crate::indices::sorted_indices;
 use crate::round::RoundSearch;
 use crate::states::{lowest_failing, lowest_foreign};
 use model::{Drawing, State};
@@ -32,10 +33,13 @@ pub fn judge_certificate<D: Drawing, H: Fn(State) -> bool>(
     if let Some(index) = lowest_failing(states, holds) {
         return Err(Refusal::FalseIn { index });
     }
+    let sorted = sorted_indices(states);
+    let indices = &sorted[..states.len()];
     let initial = RoundSearch {
         drawing,
         order,
         states,
+        indices,
         before: None,
     };
     let Some(mut count) = initial.count() else {
@@ -46,6 +50,7 @@ pub fn judge_certificate<D: Drawing, H: Fn(State) -> bool>(
             drawing,
             order,
             states,
+            indices,
             before: Some(states[index]),
         };
         let Some(more) = update.count() else {

@@ -3,6 +3,7 @@
 #![tactic(auto)]
 
 mod certificate;
+mod indices;
 mod round;
 mod run;
 mod states;

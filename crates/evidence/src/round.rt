@@ -4,18 +4,21 @@ ghost use Rattle.model.specs.States.{value, is_state};
 ghost use Rattle.units.specs.Evidence.{is_listed};
 ghost use Rattle.units.specs.Units.{kind_of_round, old_state, as_value, values_made};
 ghost use Rattle.evidence.specs.Counts.{given_top, atoms_count, values_count};
+ghost use Rattle.evidence.specs.Indices.{IndexesStates};
 ghost use Rattle.evidence.specs.Judging.{RoundReady, round_answer};
 
-use crate::states::lists;
+use crate::indices::lists;
 use model::{Drawing, Kind, Outline, Round, State, value_of};
 use std::array::from_fn;
 
-/// A round from a state, or the initialization, of a drawing whose atoms are in order, and the states that are listed.
+/// A round from a state, or the initialization, of a drawing whose atoms are in order, and the states that are listed, with their
+/// indices in the order of the states.
 #[derive(Drop)]
 pub struct RoundSearch<'a, D> {
     pub drawing: &'a D,
     pub order: &'a [u8; 16],
     pub states: &'a [State],
+    pub indices: &'a [u16],
     pub before: Option<State>,
 }
 
@@ -58,9 +61,10 @@ impl<D: Outline> RoundSearch<'_, D> {
     }
 
     fn is_listed(&self, state: State) -> bool
+        requires indexed { IndexesStates self.now.states.now self.now.indices.now }
         ensures { result ≡ is_listed self.now.states.now state }
     {
-        lists(self.states, state)
+        lists(self.states, self.indices, state)
     }
 }
 
@@ -99,6 +103,7 @@ impl<D: Drawing> RoundSearch<'_, D> {
     // The count of the outcomes under these values, given and made so far, by the choices of the atoms from this place on.
     fn atoms_count(&self, place: u8, new: State) -> Option<u32>
         requires ready { RoundReady (D.Drawing.meaning self.now.drawing.now) self.now.before self.now.order.now }
+        requires indexed { IndexesStates self.now.states.now self.now.indices.now }
         requires state { is_state (D.Drawing.meaning self.now.drawing.now).outline new ≡ true }
         requires inside { place ≤ (D.Drawing.meaning self.now.drawing.now).outline.atoms }
         ensures { result ≡ atoms_count (D.Drawing.meaning self.now.drawing.now) self.now.before
@@ -123,6 +128,7 @@ impl<D: Drawing> RoundSearch<'_, D> {
     // The same by the values of the external names from this one on.
     fn values_count(&self, name: u8, new: State) -> Option<u32>
         requires ready { RoundReady (D.Drawing.meaning self.now.drawing.now) self.now.before self.now.order.now }
+        requires indexed { IndexesStates self.now.states.now self.now.indices.now }
         requires state { is_state (D.Drawing.meaning self.now.drawing.now).outline new ≡ true }
         requires inside { name ≤ 32 }
         ensures { result ≡ values_count (D.Drawing.meaning self.now.drawing.now) self.now.before
@@ -144,6 +150,7 @@ impl<D: Drawing> RoundSearch<'_, D> {
     /// How many outcomes the round has, None where one of them is not listed.
     pub fn count(&self) -> Option<u32>
         requires ready { RoundReady (D.Drawing.meaning self.now.drawing.now) self.now.before self.now.order.now }
+        requires indexed { IndexesStates self.now.states.now self.now.indices.now }
         ensures { result ≡ round_answer (D.Drawing.meaning self.now.drawing.now) self.now.before
             self.now.states.now }
     {

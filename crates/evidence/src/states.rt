@@ -2,8 +2,7 @@
 ghost use Rattle.std.specs.Prelude.{◌≡◌, ℕ, ◌<◌, ◌≤◌, Bool, List, length, not};
 ghost use Rattle.model.specs.States.{is_state};
 ghost use Rattle.model.specs.Tests.{lowest};
-ghost use Rattle.units.specs.Counting.{equal_lists};
-ghost use Rattle.units.specs.Evidence.{state_at, is_listed};
+ghost use Rattle.units.specs.Evidence.{state_at};
 ghost use Rattle.evidence.specs.Judging.{Judges};
 
 use model::{Outline, State, all_below, value_of};
@@ -13,25 +12,6 @@ pub fn is_state<D: Outline>(drawing: &D, state: State) -> bool
     ensures { result ≡ is_state (D.Outline.outline drawing.now) state }
 {
     all_below(32, |name| value_of(state, name) <= drawing.top(name))
-}
-
-// Do the two give each name the same value?
-fn is_same(listed: &State, state: &State) -> bool
-    ensures { result ≡ equal_lists state.now listed.now }
-{
-    *listed == *state
-}
-
-/// Is the state one of the list?
-pub fn lists(states: &[State], state: State) -> bool
-    ensures { result ≡ is_listed states.now state }
-{
-    for listed in states {
-        if is_same(listed, &state) {
-            return true;
-        }
-    }
-    false
 }
 
 /// The lowest index of a state that fails the test.

@@ -25,7 +25,7 @@ returns-in-Some-lowest_failing g c = λ p h.
 pub count-requires : goal.count-requires
 count-requires g c =
     let m = g.D.Drawing.meaning c.args.drawing.now in
-    record { ready = record { fit = c.requires.fit; from_state = nothing_state m; ordered = c.requires.ordered } }
+    record { ready = record { fit = c.requires.fit; from_state = nothing_state m; ordered = c.requires.ordered }; indexed = c.sorted_indices-sorted.ensures.sorted }
 
 pub returns-in_default-count : goal.returns-in_default-count
 returns-in_default-count g c = λ p h.
@@ -49,7 +49,7 @@ count-requires-in-loop-index g c =
     let m = g.D.Drawing.meaning c.args.drawing.now in
     let agree = g.met.D.Drawing.agree c.args.drawing.now in
     let one = ap (λ (o : OutlineFacts). lowest (λ i. not (is_state o (state_at c.args.states.now i))) (length c.args.states.now)) agree ∙ sym c.lowest_foreign.ensures ∙ c.in_default.is in
-    record { ready = record { fit = c.requires.fit; from_state = all_states_there m c.args.states.now one c.loop-index.index c.loop-index-test.true; ordered = c.requires.ordered } }
+    record { ready = record { fit = c.requires.fit; from_state = all_states_there m c.args.states.now one c.loop-index.index c.loop-index-test.true; ordered = c.requires.ordered }; indexed = c.sorted_indices-sorted.ensures.sorted }
 
 pub returns-in_default-count-2 : goal.returns-in_default-count-2
 returns-in_default-count-2 g c = λ p h.
