@@ -8,7 +8,8 @@ use Rattle.life.specs.Rules.{Call, claim_call, certify_call, refute_call, open_c
 
 pub data History : UnitModel → Type 0 where
   sealing : (m : Meaning) (number : ℕ) (w : UnitModel) → Sealed m number w → History w
-  calling : (u : UnitModel) (call : Call) (reply : Reply) (w : UnitModel) → History u → Allows u call reply w → History w
+  calling : (u : UnitModel) (call : Call) (reply : Reply) (w : UnitModel) → History u →
+      Allows u call reply w → History w
   renaming : (u : UnitModel) (a b : ℕ) (w : UnitModel) → History u → Renamed u a b w → History w
   hiding : (u : UnitModel) (n : ℕ) (w : UnitModel) → History u → Hidden u n w → History w
   joining : (l r w : UnitModel) → History l → History r → Joined l r w → History w

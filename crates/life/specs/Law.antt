@@ -23,7 +23,8 @@ pub record Falsified (m : Meaning) (c : Claim) : Type 0 where
 -- A claim that is marked held is true in every state of every initialised trajectory of the module; one marked broken is false at the
 -- end of some.
 pub record MarkKept (m : Meaning) (c : Claim) : Type 0 where
-  pub held_true : c.mark ≡ held → (run : List Valuation) → IsTrajectory (module_of m) run → (v : Valuation) → Among v run → IsTrueAt c v
+  pub held_true : c.mark ≡ held → (run : List Valuation) → IsTrajectory (module_of m) run →
+      (v : Valuation) → Among v run → IsTrueAt c v
   pub broken_false : c.mark ≡ broken → Falsified m c
 
 -- The states that stood are an initialised trajectory of the module; the one that stands is its last, and no claim is false in it.
@@ -53,12 +54,15 @@ pub record Refutation (u : UnitModel) (i most : ℕ) : Type 0 where
 -- Where no more than n states are reachable, n not above 2,048: bytes that certify would accept exist exactly when the claim is true in
 -- every reachable state, and where it is false in one, bytes that refute would accept, of no more than n states.
 pub record EvidenceFound (u : UnitModel) (n i : ℕ) (c : Claim) : Type 0 where
-  pub certificate : ((v : Valuation) → IsReachable (module_of u.meaning) v → IsTrueAt c v) ↔ Certificate u i
-  pub refutation : (v : Valuation) → IsReachable (module_of u.meaning) v → IsFalseAt c v → Refutation u i n
+  pub certificate : ((v : Valuation) → IsReachable (module_of u.meaning) v → IsTrueAt c v) ↔
+      Certificate u i
+  pub refutation : (v : Valuation) → IsReachable (module_of u.meaning) v → IsFalseAt c v →
+      Refutation u i n
 
 pub record Lawful (u : UnitModel) (states : List (List ℕ)) : Type 0 where
   pub marks : (i : ℕ) (c : Claim) → slice_get u.claims i ≡ Some c → MarkKept u.meaning c
   pub standing : (s : List ℕ) → standing_state u.phase ≡ Some s → StandsRightly u states s
   pub none_standing : standing_state u.phase ≡ None → states ≡ []
-  pub evidence : IsFit u → (n : ℕ) → n ≤ 2048 → AtMost (ReachableRow u.meaning) n → (i : ℕ) (c : Claim) → slice_get u.claims i ≡ Some c → EvidenceFound u n i c
+  pub evidence : IsFit u → (n : ℕ) → n ≤ 2048 → AtMost (ReachableRow u.meaning) n →
+      (i : ℕ) (c : Claim) → slice_get u.claims i ≡ Some c → EvidenceFound u n i c
   pub never_both : (i most : ℕ) → Certificate u i → Refutation u i most → ⊥

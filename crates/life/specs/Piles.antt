@@ -49,13 +49,15 @@ claim_put a b c = record { says = truth_put a b c.says; mark = c.mark }
 -- What the new unit's module is, where its drawing has no fault: the renamed module.
 pub record Renamed (u : UnitModel) (a b : ℕ) (w : UnitModel) : Type 0 where
   pub drawing : w.meaning ≡ renamed u.meaning a b
-  pub published : w.meaning.outline.fault ≡ None → SameModule (module_of w.meaning) (renamed_module (module_of u.meaning) a b)
+  pub published : w.meaning.outline.fault ≡ None →
+      SameModule (module_of w.meaning) (renamed_module (module_of u.meaning) a b)
   pub anew : MadeAnew w u.number u.rounds (map (claim_put a b) u.claims)
 
 -- The module with the name hidden.
 pub record Hidden (u : UnitModel) (n : ℕ) (w : UnitModel) : Type 0 where
   pub drawing : w.meaning ≡ hidden u.meaning n
-  pub published : w.meaning.outline.fault ≡ None → SameModule (module_of w.meaning) (hidden_module (module_of u.meaning) n)
+  pub published : w.meaning.outline.fault ≡ None →
+      SameModule (module_of w.meaning) (hidden_module (module_of u.meaning) n)
   pub anew : MadeAnew w u.number u.rounds u.claims
 
 -- held stays held; what a run broke in a part it need not break in the whole
@@ -70,5 +72,6 @@ claim_in_whole c = record { says = c.says; mark = mark_in_whole c.mark }
 -- The composition. The left unit's number stays, and the larger count of rounds; the left unit's claims come first.
 pub record Joined (l r w : UnitModel) : Type 0 where
   pub drawing : w.meaning ≡ joined l.meaning r.meaning
-  pub published : w.meaning.outline.fault ≡ None → SameModule (module_of w.meaning) (composed (module_of l.meaning) (module_of r.meaning))
+  pub published : w.meaning.outline.fault ≡ None →
+      SameModule (module_of w.meaning) (composed (module_of l.meaning) (module_of r.meaning))
   pub anew : MadeAnew w l.number (max l.rounds r.rounds) (map claim_in_whole l.claims ++ map claim_in_whole r.claims)

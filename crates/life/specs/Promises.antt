@@ -41,14 +41,17 @@ Carried stop_call = Unit {0}
 
 -- What the rules allow is exactly what the call's definition answers and leaves, of every unit that can come from the site.
 abbrev pub TheRulesSayWhatCallsDo : Type 0
-TheRulesSayWhatCallsDo = (u : UnitModel) → Came u → (call : Call) → Carried call → (reply : Reply) (w : UnitModel) → Allows u call reply w ↔ Defined u call reply w
+TheRulesSayWhatCallsDo = (u : UnitModel) → Came u → (call : Call) → Carried call →
+    (reply : Reply) (w : UnitModel) → Allows u call reply w ↔ Defined u call reply w
 
 -- So it is with sealing and with piles of units.
 pub record TheRulesSayWhatPilesAre : Type 0 where
   pub seals : (m : Meaning) (number : ℕ) (w : UnitModel) → Sealed m number w ↔ (w ≡ seal m number)
-  pub renames : (u : UnitModel) → Came u → (a b : ℕ) (w : UnitModel) → Renamed u a b w ↔ (w ≡ rename_unit u a b)
+  pub renames : (u : UnitModel) → Came u → (a b : ℕ) (w : UnitModel) → Renamed u a b w ↔
+      (w ≡ rename_unit u a b)
   pub hides : (u : UnitModel) → Came u → (n : ℕ) (w : UnitModel) → Hidden u n w ↔ (w ≡ hide_unit u n)
-  pub joins : (l r : UnitModel) → Came l → Came r → (w : UnitModel) → Joined l r w ↔ (w ≡ join_units l r)
+  pub joins : (l r : UnitModel) → Came l → Came r → (w : UnitModel) → Joined l r w ↔
+      (w ≡ join_units l r)
 
 -- Histories by the rules are exactly what units can have come through.
 abbrev pub HistoriesAreLives : Type 0

@@ -18,10 +18,24 @@ use Rattle.life.specs.Subject.{StateRow, InitialRow, NextRow, RowAfter, IsTrueAt
 
 -- the unit with other claims, or elsewhere
 abbrev pub claiming_these : UnitModel → List Claim → UnitModel
-claiming_these u cs = record { meaning = u.meaning; number = u.number; rounds = u.rounds; crowded = u.crowded; claims = cs; phase = u.phase }
+claiming_these u cs = record {
+  meaning = u.meaning;
+  number = u.number;
+  rounds = u.rounds;
+  crowded = u.crowded;
+  claims = cs;
+  phase = u.phase;
+}
 
 abbrev pub moved_to : UnitModel → Phase → UnitModel
-moved_to u p = record { meaning = u.meaning; number = u.number; rounds = u.rounds; crowded = u.crowded; claims = u.claims; phase = p }
+moved_to u p = record {
+  meaning = u.meaning;
+  number = u.number;
+  rounds = u.rounds;
+  crowded = u.crowded;
+  claims = u.claims;
+  phase = p;
+}
 
 -- a round that began with this state standing, if any, with the values given and made so far and the atoms that have fired
 abbrev pub InRound : UnitModel → Option (List ℕ) → List ℕ → List Bool → Type 0
@@ -131,7 +145,8 @@ pub record Against (why : Meaning → Claim → List (List ℕ) → Refusal → 
   pub evidence : Evidence u i bytes
   pub reason : why u.meaning evidence.claim evidence.states r
 
-abbrev pub EvidenceRefused : (Meaning → Claim → List (List ℕ) → Refusal → Type 0) → UnitModel → ℕ → List ℕ → Refusal → Type 0
+abbrev pub EvidenceRefused : (Meaning → Claim → List (List ℕ) → Refusal → Type 0) → UnitModel → ℕ →
+    List ℕ → Refusal → Type 0
 EvidenceRefused why u i bytes =
     Unfit u
     or-else Because (slice_get u.claims i ≡ None) NoSuchClaim
@@ -145,7 +160,8 @@ AllHeld cs = (i : ℕ) (c : Claim) → slice_get cs i ≡ Some c → c.mark ≡ 
 
 -- a value that may be given: at an external name not above its top, at any other 0
 abbrev pub MayBeGiven : Meaning → List ℕ → ℕ → Type 0
-MayBeGiven m given n = (m.outline.kind n ≡ Some External → value given n ≤ m.outline.top n) × (m.outline.kind n ≢ Some External → value given n ≡ 0)
+MayBeGiven m given n = (m.outline.kind n ≡ Some External → value given n ≤ m.outline.top n) ×
+    (m.outline.kind n ≢ Some External → value given n ≡ 0)
 
 -- the round begins, with no atom fired, and its slip is answered
 pub record RoundOpened (u : UnitModel) (given : List ℕ) (slip : Slip) (w : UnitModel) : Type 0 where
@@ -156,7 +172,14 @@ pub record RoundOpened (u : UnitModel) (given : List ℕ) (slip : Slip) (w : Uni
   pub given_right : (n : ℕ) → n < 32 → MayBeGiven u.meaning given n
   pub rounds_left : u.rounds ≢ 4294967295
   pub number : slip ≡ record { unit = u.number; round = u.rounds + 1 }
-  pub after : w ≡ record { meaning = u.meaning; number = u.number; rounds = u.rounds + 1; crowded = u.crowded; claims = u.claims; phase = in_round (standing_state u.phase) given (replicate 16 false) }
+  pub after : w ≡ record {
+    meaning = u.meaning;
+    number = u.number;
+    rounds = u.rounds + 1;
+    crowded = u.crowded;
+    claims = u.claims;
+    phase = in_round (standing_state u.phase) given (replicate 16 false);
+  }
 
 abbrev pub OpenRefused : UnitModel → List ℕ → Refusal → Type 0
 OpenRefused u given =
@@ -180,12 +203,14 @@ HasFired fired a = slice_index_or fired a false ≡ true
 
 -- each atom that controls a name that a awaits has fired
 abbrev pub MayFire : Meaning → List Bool → ℕ → Type 0
-MayFire m fired a = (n b : ℕ) → m.outline.awaits a n ≡ true → m.outline.controls b n ≡ true → HasFired fired b
+MayFire m fired a = (n b : ℕ) → m.outline.awaits a n ≡ true → m.outline.controls b n ≡ true →
+    HasFired fired b
 
 -- the new values: what the choice gives at the names that the atom controls, and as they were at the others
 pub record Made (m : Meaning) (before : Option (List ℕ)) (new : List ℕ) (a k : ℕ) (made : List ℕ) : Type 0 where
   pub long : length made ≡ 32
-  pub given : (n : ℕ) → n < 32 → m.outline.controls a n ≡ true → m.acts.gives (kind_of_round before) a k n (value (old_state before)) (value new) ≡ pos (value made n)
+  pub given : (n : ℕ) → n < 32 → m.outline.controls a n ≡ true →
+      m.acts.gives (kind_of_round before) a k n (value (old_state before)) (value new) ≡ pos (value made n)
   pub others : (n : ℕ) → n < 32 → m.outline.controls a n ≡ false → value made n ≡ value new n
 
 -- the atom's values are made, and how many atoms are yet to fire is answered
