@@ -2,8 +2,7 @@
 //! and what it must print were made by tools/independent.py, which shares no code with the library.
 #![tactic(auto)]
 
-use commands::{FileBytes, Mistake, Vocabulary};
-use sessions::Session;
+use script::{FileBytes, Mistake, Session};
 use std::io;
 use std::io::{BufRead, BufReader};
 
@@ -25,10 +24,13 @@ fn numbers(answer: &str) -> &str {
 
 fn main(rt: HostRuntime) -> io::Result<()> {
     let heap = rt.alloc();
-    let mut session = Session::new(heap, Vocabulary::Everything);
+    let mut session = Session::new(heap);
     for line in BufReader::new(heap, rt.stdin())?.split(heap, b'\n') {
         match session.run(&NoFiles, line?.as_slice()) {
-            Ok(Some(answer)) => println!(rt; "{}", numbers(answer.as_str()))?,
+            Ok(Some(answer)) => {
+                let text = answer.to_string(heap)?;
+                println!(rt; "{}", numbers(text.as_str()))?
+            }
             Ok(None) => {}
             Err(mistake) => println!(rt; "error: {mistake}")?,
         }

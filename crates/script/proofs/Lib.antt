@@ -1,0 +1,6 @@
+mod Assign
+mod Digits
+mod Names
+mod Parts
+mod Sources
+mod Spelt

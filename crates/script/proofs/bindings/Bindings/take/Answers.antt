@@ -1,0 +1,4 @@
+use Rattle.script.proofs.bindings.Bindings.take.Goals as goal
+
+pub remove-requires : goal.remove-requires
+remove-requires c = (_, c.in_ok-drawing.ensures)

@@ -1,0 +1,14 @@
+pub mod Answers
+pub mod Bindings
+pub mod Commands
+pub mod Files
+pub mod Hex
+pub mod Numbers
+pub mod Reading
+pub mod Refusals
+pub mod Sessions
+pub mod Sources
+pub mod StateBytes
+pub mod States
+pub mod Verbs
+pub mod Words

@@ -1,4 +1,0 @@
-use Rattle.sessions.proofs.things.Things.take.Goals as goal
-
-pub remove-requires : goal.remove-requires
-remove-requires c = (_, c.in_ok-drawing.ensures)

@@ -1,7 +1,0 @@
-use Rattle.std.proofs.Common.{rules}
-use Rattle.sessions.proofs.Names.{stands_still}
-use Rattle.sessions.proofs.things.Things.take_two.Goals as goal
-
-pub remove-requires : goal.remove-requires
-remove-requires c =
-    (_, stands_still c.args.self.now c.take.new.self c.args.left.now c.args.right.now _ c.in_ok-first.ensures.1 (search rules) c.in_ok-drawing.ensures)

@@ -1,3 +1,0 @@
-pub mod GateLists
-pub mod Sessions
-pub mod Things

@@ -1,6 +1,0 @@
-use Rattle.std.proofs.Common.{rules}
-use Rattle.std.proofs.iter.runs.Sources.{ranges}
-use Rattle.wording.proofs.facts.atoms.Goals as goal
-
-pub returns : goal.returns
-returns g c = search (rules, ranges)
