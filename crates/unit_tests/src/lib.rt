@@ -4,6 +4,8 @@
 #[cfg(test)]
 mod claiming;
 #[cfg(test)]
+mod judged;
+#[cfg(test)]
 mod parts;
 #[cfg(test)]
 mod peterson;
