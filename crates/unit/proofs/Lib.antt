@@ -5,3 +5,4 @@ pub mod Marking
 pub mod Ordering
 pub mod Reading
 pub mod Sealing
+pub mod Steps

@@ -1,4 +1,8 @@
 //! Units.
+ghost use Rattle.life.specs.Lives.{HasLawfulLife};
+ghost use Rattle.life.specs.Piles.{Sealed};
+ghost use Rattle.life.specs.Promises.{reply_of};
+ghost use Rattle.life.specs.Rules.{Allows, certify_call, claim_call, number_reply, refute_call};
 ghost use Rattle.unit.specs.Calls.{answer_of, certify_numbers};
 ghost use Rattle.unit.specs.Invariants.{UnitInvariant};
 ghost use Rattle.unit.specs.States.{model_of};
@@ -26,6 +30,8 @@ impl<D: Drawing> Unit<D> {
         ensures drawing { result.drawing ≡ drawing }
         ensures model { model_of (D.Drawing.meaning result.drawing) result.state
             ≡ seal (D.Drawing.meaning drawing) number }
+        ensures sealed { Sealed (D.Drawing.meaning drawing) number
+            (model_of (D.Drawing.meaning result.drawing) result.state) }
         ensures rightly { SealedRightly (D.Drawing.meaning result.drawing) result.state }
     {
         let state = UnitState::new(&drawing, number, 0, false, Claims::none());
@@ -46,6 +52,7 @@ impl<D: Drawing> Unit<D> {
             (verdict_of (model_of (D.Drawing.meaning self.now.drawing) self.now.state)) }
         ensures zero { ZeroWhenFit
             (verdict_of (model_of (D.Drawing.meaning self.now.drawing) self.now.state)) }
+        ensures lawful { HasLawfulLife (model_of (D.Drawing.meaning self.now.drawing) self.now.state) }
     {
         fault_numbers(self.refusal().map(Fault::from))
     }
@@ -73,6 +80,9 @@ impl<D: Drawing> Unit<D> {
         ensures unit { model_of (D.Drawing.meaning self.new.drawing) self.new.state
             ≡ (claim (model_of (D.Drawing.meaning self.old.drawing) self.old.state) bytes.now).unit }
         ensures drawing { self.new.drawing ≡ self.old.drawing }
+        ensures allowed { Allows (model_of (D.Drawing.meaning self.old.drawing) self.old.state)
+            (claim_call bytes.now) (reply_of number_reply (answer_of result))
+            (model_of (D.Drawing.meaning self.new.drawing) self.new.state) }
     {
         self.state.claim(&self.drawing, bytes)
     }
@@ -90,6 +100,9 @@ impl<D: Drawing> Unit<D> {
         ensures unit { model_of (D.Drawing.meaning self.new.drawing) self.new.state
             ≡ (certify (model_of (D.Drawing.meaning self.old.drawing) self.old.state) number bytes.now).unit }
         ensures drawing { self.new.drawing ≡ self.old.drawing }
+        ensures allowed { Allows (model_of (D.Drawing.meaning self.old.drawing) self.old.state)
+            (certify_call number bytes.now) (reply_of number_reply (answer_of result))
+            (model_of (D.Drawing.meaning self.new.drawing) self.new.state) }
     {
         self.state.certify(&self.drawing, number, bytes)
     }
@@ -125,6 +138,9 @@ impl<D: Drawing> Unit<D> {
         ensures unit { model_of (D.Drawing.meaning self.new.drawing) self.new.state
             ≡ (refute (model_of (D.Drawing.meaning self.old.drawing) self.old.state) number bytes.now).unit }
         ensures drawing { self.new.drawing ≡ self.old.drawing }
+        ensures allowed { Allows (model_of (D.Drawing.meaning self.old.drawing) self.old.state)
+            (refute_call number bytes.now) (reply_of number_reply (answer_of result))
+            (model_of (D.Drawing.meaning self.new.drawing) self.new.state) }
     {
         self.state.refute(&self.drawing, number, bytes)
     }

@@ -1,3 +1,4 @@
+use Rattle.unit.proofs.Steps.{certify_allowed}
 use Rattle.unit.specs.States.{model_of}
 use Rattle.unit.proofs.Accepted.{certified}
 use Rattle.unit.proofs.Calls.{came_by_certify, claimed_invariant, written_see}
@@ -14,3 +15,8 @@ invariant_of-self g c =
 pub returns-clause-accepted : goal.returns-clause-accepted
 returns-clause-accepted g c =
     certified (model_of (g.D.Drawing.meaning c.args.self.now.drawing) c.args.self.now.state) c.args.number c.args.bytes.now c.certify.result c.certify.ensures.answer
+
+pub returns-clause-allowed : goal.returns-clause-allowed
+returns-clause-allowed g c =
+    let m = g.D.Drawing.meaning c.args.self.now.drawing in
+    certify_allowed (model_of m c.args.self.now.state) (model_of m c.certify.new.self) c.args.bytes.now c.certify.result c.args.number c.certify.ensures.answer c.certify.ensures.unit

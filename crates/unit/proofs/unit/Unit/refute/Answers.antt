@@ -1,3 +1,4 @@
+use Rattle.unit.proofs.Steps.{refute_allowed}
 use Rattle.unit.specs.States.{model_of}
 use Rattle.unit.proofs.Accepted.{broken_rightly}
 use Rattle.unit.proofs.Calls.{came_by_refute, claimed_invariant, written_see}
@@ -14,3 +15,8 @@ invariant_of-self g c =
 pub returns-clause-accepted : goal.returns-clause-accepted
 returns-clause-accepted g c =
     broken_rightly (model_of (g.D.Drawing.meaning c.args.self.now.drawing) c.args.self.now.state) c.args.number c.args.bytes.now c.refute.result c.refute.ensures.answer
+
+pub returns-clause-allowed : goal.returns-clause-allowed
+returns-clause-allowed g c =
+    let m = g.D.Drawing.meaning c.args.self.now.drawing in
+    refute_allowed (model_of m c.args.self.now.state) (model_of m c.refute.new.self) c.args.bytes.now c.refute.result c.args.number c.refute.ensures.answer c.refute.ensures.unit
