@@ -4,8 +4,6 @@
 #[cfg(test)]
 mod claiming;
 #[cfg(test)]
-mod judged;
-#[cfg(test)]
 mod parts;
 #[cfg(test)]
 mod peterson;
