@@ -5,7 +5,7 @@ use Rattle.std.proofs.lemmas.Bool.{and_from, and_parts}
 use Rattle.language.proofs.Expressions.{number_good, truth_good, whole_expressions_are_written}
 use Rattle.language.specs.laws.Expressions.{number_read, truth_read, bad_good, number_low, number_high}
 use Rattle.language.specs.Expressions.{Number, constant, old_value, new_value, sum, difference, Truth, equal, less, negation, conjunction, disjunction, always, number_bytes, number_levels, truth_levels, number_value, truth_value, Seen, number_sees, truth_sees, Reading, good, bad, read_number, read_truth, to_the_end, whole_number, whole_truth}
-use Rattle.model.specs.Meanings.{Bytes}
+use Rattle.model.specs.Meanings.{AreBytes}
 use Rattle.model.specs.States.{value}
 use Rattle.expression.specs.Evaluation.{everything, number_worth, truth_worth, or_else, evaluated_number, evaluated_truth, NumberEvaluated, TruthEvaluated}
 
@@ -57,7 +57,7 @@ module _ (bs old new : List ℕ) where
   truth_evaluated_read s p end h =
       ap (or_else (truth_worth old new) false) (whole_again (length bs) (read_truth 8 s bs 0) (read_truth 8 everything bs 0) p end (truth_read_again s 8 bs 0) h)
 
-  number_range : Bytes (value old) → Bytes (value new) → length bs ≤ 64 → (negsuc 5099 ≤ℤ evaluated_number bs old new) × (evaluated_number bs old new ≤ℤ pos 5355)
+  number_range : AreBytes (value old) → AreBytes (value new) → length bs ≤ 64 → (negsuc 5099 ≤ℤ evaluated_number bs old new) × (evaluated_number bs old new ≤ℤ pos 5355)
   number_range p q short = go (whole_number 8 everything bs) refl
     where
       go : (r : Reading Number) → whole_number 8 everything bs ≡ r → (negsuc 5099 ≤ℤ or_else (number_worth old new) (pos 0) r) × (or_else (number_worth old new) (pos 0) r ≤ℤ pos 5355)
@@ -69,7 +69,7 @@ module _ (bs old new : List ℕ) where
           let few : length (number_bytes e) ≤ 64 = omega arith in
           (number_low everything e (value old) (value new) sees p q few, number_high everything e (value old) (value new) sees p q few)
 
-  pub number_evaluated : (r : ℤ) → Bytes (value old) → Bytes (value new) → r ≡ evaluated_number bs old new → NumberEvaluated bs old new r
+  pub number_evaluated : (r : ℤ) → AreBytes (value old) → AreBytes (value new) → r ≡ evaluated_number bs old new → NumberEvaluated bs old new r
   number_evaluated r p q is =
       record {
         written = λ s e h same. is ∙ number_evaluated_read s e _ (ap (whole_number 8 s) same ∙ whole_expressions_are_written.numbers 8 s e h);

@@ -6,7 +6,7 @@ use Rattle.std.proofs.lemmas.Int.{to_z-of_z}
 use Rattle.std.proofs.lemmas.Bool.{and_parts, leb-true, eqb-true, eqb-false, eq-eqb, ne_eqb}
 use Rattle.language.specs.laws.Expressions.{number_read, leaves, number_bounded}
 use Rattle.language.specs.Expressions.{Number, constant, old_value, new_value, sum, difference, number_levels, eqZ, number_sees, byte_at, Reading, good, bad, after, judged, good_byte, read_byte, as_constant, as_name, one, two, read_number}
-use Rattle.model.specs.Meanings.{Bytes}
+use Rattle.model.specs.Meanings.{AreBytes}
 use Rattle.model.specs.States.{value}
 use Rattle.expression.specs.Evaluation.{everything, valued, number_worth, pair, pair_worth, one_byte, itself, byte_worth, name_worth}
 
@@ -117,7 +117,7 @@ pub record Room (z : ℤ) : Type 0 where
   pub high : up z ≤ down z + 16320
   pub low : down z ≤ up z + 16320
 
-pub room : (l : ℕ) (bs old new : List ℕ) (k : ℕ) (z : ℤ) (end : ℕ) → l ≤ 7 → Bytes (value old) → Bytes (value new) → Some (z, end) ≡ valued (number_worth old new) (read_number l everything bs k) → Room z
+pub room : (l : ℕ) (bs old new : List ℕ) (k : ℕ) (z : ℤ) (end : ℕ) → l ≤ 7 → AreBytes (value old) → AreBytes (value new) → Some (z, end) ≡ valued (number_worth old new) (read_number l everything bs k) → Room z
 room l bs old new k z end few p q e = go (read_number l everything bs k) refl e
   where
     go : (r : Reading Number) → read_number l everything bs k ≡ r → Some (z, end) ≡ valued (number_worth old new) r → Room z
@@ -131,7 +131,7 @@ room l bs old new k z end few p q e = go (read_number l everything bs k) refl e
         subst Room (sym same) (record { high = omega (arith, held.high, held.low); low = omega (arith, held.high, held.low) })
 
 -- of both numbers of a pair
-pub rooms : (l : ℕ) (bs old new : List ℕ) (k : ℕ) (a b : ℤ) (end : ℕ) → l ≤ 7 → Bytes (value old) → Bytes (value new) → Some ((a, b), end) ≡ valued (pair_worth (number_worth old new)) (two pair (read_number l everything bs) k) → Room a × Room b
+pub rooms : (l : ℕ) (bs old new : List ℕ) (k : ℕ) (a b : ℤ) (end : ℕ) → l ≤ 7 → AreBytes (value old) → AreBytes (value new) → Some ((a, b), end) ≡ valued (pair_worth (number_worth old new)) (two pair (read_number l everything bs) k) → Room a × Room b
 rooms l bs old new k a b end few p q e =
     let parts = pair_parts (number_worth old new) (read_number l everything bs) k a b end e in
     (room l bs old new k a parts.0 few p q parts.1, room l bs old new parts.0 b end few p q parts.2)

@@ -1,5 +1,5 @@
 //! What stands at a place of bytes is worth.
-ghost use Rattle.model.specs.Meanings.{Bytes};
+ghost use Rattle.model.specs.Meanings.{AreBytes};
 ghost use Rattle.model.specs.States.{value};
 ghost use Rattle.std.specs.Prelude.{◌≤◌};
 
@@ -13,8 +13,8 @@ pub struct Evaluator<'a> {
     pub old: &'a State,
     pub new: &'a State,
     pub levels: u8,
-    ghost old_bytes: { Bytes (value old.now) },
-    ghost new_bytes: { Bytes (value new.now) },
+    ghost old_bytes: { AreBytes (value old.now) },
+    ghost new_bytes: { AreBytes (value new.now) },
     ghost few: { levels ≤ 8 },
 }
 

@@ -4,7 +4,7 @@ use Rattle.std.proofs.lemmas.List.{length-append, get_or-drop}
 use Rattle.std.proofs.lemmas.Bool.{cond-true, eq-eqb, both_ways}
 use Rattle.std.proofs.lemmas.Bool.Decides.{Decides-at, Decides-or, Decides-and, Decides-ltb}
 use Rattle.std.specs.Result.{is_err}
-use Rattle.model.specs.Rows.{listed}
+use Rattle.model.specs.Rows.{row_items}
 use Rattle.model.specs.Tests.{some, lowest}
 use Rattle.model.specs.declared.row.Full.{Full}
 use Rattle.model.specs.declared.row.Row.{Row}
@@ -65,7 +65,7 @@ module _ (bs : List ℕ) (i : ℕ) (whole : length bs % 5 ≡ 0) (inside : 5 * i
         go false e = refl
         go true e = absurd (⊎_elim apart (λ h. omega arith) (breaks_decides.0 e))
 
-    module _ (old new : Row Part 16) (r : Result (Unit {0}) Full) (read_before : listed old ≡ parts_upto bs i) (added : Grown old (parts_of g) new r) where
+    module _ (old new : Row Part 16) (r : Result (Unit {0}) Full) (read_before : row_items old ≡ parts_upto bs i) (added : Grown old (parts_of g) new r) where
       pub found_full : is_err r ≡ true → faulty (5 * i) ≡ netlist_from bs
       found_full e = found_here (breaks_decides.1 (inr (go r added e)))
         where
@@ -73,14 +73,14 @@ module _ (bs : List ℕ) (i : ℕ) (whole : length bs % 5 ≡ 0) (inside : 5 * i
           go (Ok u) h k = absurd (both_ways false refl k)
           go (Err f) h k = subst (λ ps. 16 < length (ps ++ parts_of g)) read_before h
 
-      pub read_more : (Clashes bs i g → ⊥) → is_err r ≡ false → i ≤ length (listed old) → (listed new ≡ parts_upto bs (i + 1)) × (lowest (breaks bs) (i + 1) ≡ None) × (i + 1 ≤ length (listed new))
+      pub read_more : (Clashes bs i g → ⊥) → is_err r ≡ false → i ≤ length (row_items old) → (row_items new ≡ parts_upto bs (i + 1)) × (lowest (breaks bs) (i + 1) ≡ None) × (i + 1 ≤ length (row_items new))
       read_more apart e few = (rw add-one (grown ∙ sym more), lowest_more (breaks bs) i before fine, omega (arith, ap length grown, length-append (parts_upto bs i) (parts_of g), parts_some g, ap length read_before))
         where
-          go : (q : Result (Unit {0}) Full) → Grown old (parts_of g) new q → is_err q ≡ false → listed new ≡ listed old ++ parts_of g
+          go : (q : Result (Unit {0}) Full) → Grown old (parts_of g) new q → is_err q ≡ false → row_items new ≡ row_items old ++ parts_of g
           go (Ok u) h k = h
           go (Err f) h k = absurd (both_ways true k refl)
 
-          grown : listed new ≡ parts_upto bs i ++ parts_of g
+          grown : row_items new ≡ parts_upto bs i ++ parts_of g
           grown = go r added e ∙ ap (λ ps. ps ++ parts_of g) read_before
 
           more : parts_upto bs (suc i) ≡ parts_upto bs i ++ parts_of g

@@ -1,6 +1,6 @@
 -- What is found and kept while a gate list is read.
 use Rattle.std.specs.Prelude.{◌≡◌, ◌*◌, ◌<◌, ◌⊎◌, ℕ, Bool, List, ◌++◌, length, IsTrue, Some, None, Result, Ok, Err, MatchResult}
-use Rattle.model.specs.Rows.{listed}
+use Rattle.model.specs.Rows.{row_items}
 use Rattle.model.specs.declared.row.Full.{Full}
 use Rattle.model.specs.declared.row.Row.{Row}
 use Rattle.gates.specs.Netlists.{Netlist, faulty, is_latch, same_out, same_own}
@@ -9,11 +9,11 @@ use Rattle.gates.specs.declared.gate.Part.{Part}
 
 -- the row has more atoms at its end, or there would be more than 16
 abbrev pub Grown : Row Part 16 → List Part → Row Part 16 → Result (Unit {0}) Full → Type 0
-Grown old more new r = MatchResult r (λ _. listed new ≡ listed old ++ more) (λ _. 16 < length (listed old ++ more))
+Grown old more new r = MatchResult r (λ _. row_items new ≡ row_items old ++ more) (λ _. 16 < length (row_items old ++ more))
 
 -- the atoms of a list without fault, or the place of the fault and no atoms
 abbrev pub netlist_in : Result (Row Part 16) ℕ → Netlist
-netlist_in (Ok row) = record { fault_place = None; parts = listed row }
+netlist_in (Ok row) = record { fault_place = None; parts = row_items row }
 netlist_in (Err place) = faulty place
 
 -- the test passes at some number below n

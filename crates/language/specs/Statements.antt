@@ -1,6 +1,6 @@
 -- The theorems of this crate.
 use Rattle.std.specs.Prelude.{◌≡◌, ℕ, ◌+◌, ◌<◌, ◌≤◌, true, false, List, [], ◌∷◌, ◌++◌, length, take, drop, replicate, ℤ, pos, negsuc, ◌≤ℤ◌, ◌<ℤ◌, Some, None, Decides, Option, ◌≢◌, slice_set}
-use Rattle.model.specs.Meanings.{Valuation, Bytes}
+use Rattle.model.specs.Meanings.{Valuation, AreBytes}
 use Rattle.model.specs.declared.Fault.{Fault}
 use Rattle.language.specs.Expressions.{Agree, Number, Truth, equal, less, number_bytes, truth_bytes, number_value, truth_value, Seen, number_sees, truth_sees, number_right, truth_right, good, bad, read_number, read_truth, whole_number, whole_truth, expression_fault, swapped, seen_swapped, number_renamed, truth_renamed, operator, bytes_renamed}
 use Rattle.language.specs.Fronts.{Same, FromFront}
@@ -64,9 +64,9 @@ pub record Reached (z : ℤ) : Type 0 where
 -- where the values seen are bytes, a number of at most 64 bytes lies from −5,100 to 5,355, and both are reached
 pub record ValuesStayInRange : Type 0 where
   pub low : (s : Seen) (e : Number) (old new : Valuation) →
-      number_sees s e ≡ true → Bytes old → Bytes new → length (number_bytes e) ≤ 64 → negsuc 5099 ≤ℤ number_value e old new
+      number_sees s e ≡ true → AreBytes old → AreBytes new → length (number_bytes e) ≤ 64 → negsuc 5099 ≤ℤ number_value e old new
   pub high : (s : Seen) (e : Number) (old new : Valuation) →
-      number_sees s e ≡ true → Bytes old → Bytes new → length (number_bytes e) ≤ 64 → number_value e old new ≤ℤ pos 5355
+      number_sees s e ≡ true → AreBytes old → AreBytes new → length (number_bytes e) ≤ 64 → number_value e old new ≤ℤ pos 5355
   pub lowest : Reached (negsuc 5099)
   pub highest : Reached (pos 5355)
 

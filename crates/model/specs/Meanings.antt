@@ -12,8 +12,8 @@ abbrev pub Valuation : Type 0
 Valuation = ℕ → ℕ
 
 -- each value is a byte
-abbrev pub Bytes : Valuation → Type 0
-Bytes v = (n : ℕ) → v n ≤ 255
+abbrev pub AreBytes : Valuation → Type 0
+AreBytes v = (n : ℕ) → v n ≤ 255
 
 -- What an outline tells. Names and atoms that are not there are asked after too: their kind is None,
 -- their top 0, their sets empty.
@@ -79,8 +79,8 @@ pub record ChoiceLaws (o : OutlineFacts) (c : ChoiceFacts) : Type 0 where
   pub absent_gives : (r : Round) (a k n : ℕ) (old new : Valuation) → c.choices r a ≤ k → c.gives r a k n old new ≡ pos 0
   pub other_gives : (r : Round) (a k n : ℕ) (old new : Valuation) → o.controls a n ≡ false → c.gives r a k n old new ≡ pos 0
   -- what is given is a whole number of 16 bits, where the values seen are bytes
-  pub gives_low : (r : Round) (a k n : ℕ) (old new : Valuation) → Bytes old → Bytes new → negsuc 32767 ≤ℤ c.gives r a k n old new
-  pub gives_high : (r : Round) (a k n : ℕ) (old new : Valuation) → Bytes old → Bytes new → c.gives r a k n old new ≤ℤ pos 32767
+  pub gives_low : (r : Round) (a k n : ℕ) (old new : Valuation) → AreBytes old → AreBytes new → negsuc 32767 ≤ℤ c.gives r a k n old new
+  pub gives_high : (r : Round) (a k n : ℕ) (old new : Valuation) → AreBytes old → AreBytes new → c.gives r a k n old new ≤ℤ pos 32767
   -- a choice sees only new values of awaited names and, in an update, old values of read names
   pub opens_by_sight : (r : Round) (a k : ℕ) (old new old' new' : Valuation) → Alike o r a old new old' new' → c.opens r a k old new ≡ c.opens r a k old' new'
   pub gives_by_sight : (r : Round) (a k n : ℕ) (old new old' new' : Valuation) → Alike o r a old new old' new' → c.gives r a k n old new ≡ c.gives r a k n old' new'

@@ -27,15 +27,20 @@ pub use row::{Full, Row};
 /// or by its surroundings.
 #[derive(Clone, Copy, PartialEq, Eq, Debug)]
 pub enum Kind {
+    /// Controlled by the module, and seen by it alone.
     Private = 0,
+    /// Controlled by the module, and seen by its surroundings.
     Interface = 1,
+    /// Controlled by the surroundings.
     External = 2,
 }
 
 /// The round that gives a module its first state, or one that takes it from a state to the next.
 #[derive(Clone, Copy, PartialEq, Eq, Debug)]
 pub enum Round {
+    /// Gives a first state.
     Initial,
+    /// Leads from a state to the next.
     Update,
 }
 
@@ -43,8 +48,11 @@ pub enum Round {
 /// enum of all rules would name, in this lowest crate, those of every kind of drawing above it. Each kind has its own.
 #[derive(Clone, Copy, PartialEq, Eq, Debug)]
 pub struct Fault {
+    /// The rule that is broken, from 1.
     pub number: u8,
+    /// The layer of a pile, the top one being 0; past 255 all are told as 255.
     pub layer: u8,
+    /// The byte, name or atom, by the rule.
     pub place: u16,
 }
 

@@ -45,11 +45,11 @@ impl<T: Copy, const N: usize> Copy for Row<T, N> {}
 
 impl<T: Copy, const N: usize> Row<T, N> {
     ghost use Rattle.std.specs.Prelude.{◌≡◌, ◌≤◌, [], length};
-    ghost use Rattle.model.specs.Rows.{listed, Filled, Pushed};
+    ghost use Rattle.model.specs.Rows.{row_items, Filled, Pushed};
 
     /// No items. The blank fills the places that none takes.
     pub fn empty(blank: T) -> Row<T, N>
-        ensures { listed result ≡ [] }
+        ensures { row_items result ≡ [] }
     {
         Row {
             items: [blank; N],
@@ -74,7 +74,7 @@ impl<T: Copy, const N: usize> Row<T, N> {
 
     /// Adds an item at the end, if there is room.
     pub fn push(&mut self, item: T) -> Result<(), Full>
-        ensures { Pushed N (listed self.old) item (listed self.new) result }
+        ensures { Pushed N (row_items self.old) item (row_items self.new) result }
     {
         if self.count == N {
             return Err(Full);
@@ -85,7 +85,7 @@ impl<T: Copy, const N: usize> Row<T, N> {
     }
 
     pub fn as_slice(&self) -> &[T]
-        ensures listed { result.now ≡ listed self.now }
+        ensures items { result.now ≡ row_items self.now }
         ensures few { length result.now ≤ N }
     {
         &self.items[..self.count]

@@ -14,7 +14,7 @@ use Rattle.std.specs.Coded.{coded_option}
 use Rattle.std.specs.Option.{option_copied, option_map}
 use Rattle.std.specs.Result.{result_copied, result_err, result_ok}
 use Rattle.std.specs.Slice.{IsItemAt}
-use Rattle.model.specs.Rows.{listed}
+use Rattle.model.specs.Rows.{row_items}
 use Rattle.model.specs.Sets.{has}
 use Rattle.model.specs.Sets.{NameSet}
 use Rattle.model.specs.declared.Fault.{Fault}
@@ -55,7 +55,7 @@ module _ (t : Table) where
   laid : (l : Layout) → Opens (contents t) l → IsLayout (contents t) 0 (table_of (contents t)) l
   laid l w = subst (λ s. IsLayout (contents t) 0 s l) (is_table l w) w.laid
 
-  pub atom_at : (l : Layout) → t.found ≡ Ok l → (i : ℕ) → ∥ IsAtomOf (contents t) (atom_start (table_of (contents t)) i) (atom_of t i) (slice_get (listed l.atoms) i) ∥₁
+  pub atom_at : (l : Layout) → t.found ≡ Ok l → (i : ℕ) → ∥ IsAtomOf (contents t) (atom_start (table_of (contents t)) i) (atom_of t i) (slice_get (row_items l.atoms) i) ∥₁
   atom_at l e i = ∥∥₁_map (whole l e) (λ w. (laid l w).atoms.each i)
 
 -- ---- the outline
@@ -92,9 +92,9 @@ module _ (t : Table) (l : Layout) (e : Some l ≡ result_ok t.found) where
   pub variable_told : (n : ℕ) → at l.variables n ≡ variable_of t n
   variable_told n = variable_at_name t l (found_ok t.found l e) n
 
-  pub atom_told : (xs : List AtomLayout) (i : ℕ) (r : Option (Bor AtomLayout)) → xs ≡ listed l.atoms → IsItemAt xs i r → ∥ IsAtomOf (contents t) (atom_start (table_of (contents t)) i) (atom_of t i) (option_copied r) ∥₁
+  pub atom_told : (xs : List AtomLayout) (i : ℕ) (r : Option (Bor AtomLayout)) → xs ≡ row_items l.atoms → IsItemAt xs i r → ∥ IsAtomOf (contents t) (atom_start (table_of (contents t)) i) (atom_of t i) (option_copied r) ∥₁
   atom_told xs i r same h =
-      let is : option_copied r ≡ slice_get (listed l.atoms) i = item_at xs i r h ∙ ap (λ ys. slice_get ys i) same in
+      let is : option_copied r ≡ slice_get (row_items l.atoms) i = item_at xs i r h ∙ ap (λ ys. slice_get ys i) same in
       subst (λ o. ∥ IsAtomOf (contents t) (atom_start (table_of (contents t)) i) (atom_of t i) o ∥₁) (sym is) (atom_at t l (found_ok t.found l e) i)
 
 -- ---- an atom's choices
@@ -118,10 +118,10 @@ module _ (t : Table) (i : ℕ) (l : AtomLayout) (found : ∥ IsAtomOf (contents 
       go (Some a) is h = ∥∥₁_elim h (prop (Some a)) (λ x. each a is x)
       go None is h = ∥∥₁_elim h (prop None) (λ x. absurd x)
 
-  pub choice_at : (k : ℕ) → ∥ IsChoiceOf (contents t) (controlled (atom_of t i)) (choice_of t r i k) (slice_get (listed (places_in r l)) k) ∥₁
+  pub choice_at : (k : ℕ) → ∥ IsChoiceOf (contents t) (controlled (atom_of t i)) (choice_of t r i k) (slice_get (row_items (places_in r l)) k) ∥₁
   choice_at k =
-      by_atom (λ o. ∥ IsChoiceOf (contents t) (controlled o) (slice_get (choices_in r o) k) (slice_get (listed (places_in r l)) k) ∥₁) (λ o. ∥∥₁_prop)
-      (λ a is h. ∣ stand a is (slice_get (choices_in r (Some a)) k) (slice_get (listed (places_in r l)) k) ((choices_laid (contents t) (atom_start (table_of (contents t)) i) a l r h).each k) ∣₁)
+      by_atom (λ o. ∥ IsChoiceOf (contents t) (controlled o) (slice_get (choices_in r o) k) (slice_get (row_items (places_in r l)) k) ∥₁) (λ o. ∥∥₁_prop)
+      (λ a is h. ∣ stand a is (slice_get (choices_in r (Some a)) k) (slice_get (row_items (places_in r l)) k) ((choices_laid (contents t) (atom_start (table_of (contents t)) i) a l r h).each k) ∣₁)
     where
       stand : (a : TableAtom) → slice_get (table_of (contents t)).atoms i ≡ Some a → (c : Option TableChoice) (p : Option ℕ) → Paired (IsChoiceAt (contents t) (first_choice r (atom_start (table_of (contents t)) i) a) (seen_in r a.reads a.awaits) (size a.controls) (take k (choices_in r (Some a)))) c p → IsChoiceOf (contents t) (size a.controls) c p
       stand a is (Some c) (Some place) laid = choice_stands (seen_in r a.reads a.awaits) (size a.controls) (contents t) place c laid.end (atom_short (contents t) i a is) laid.read
@@ -130,10 +130,10 @@ module _ (t : Table) (i : ℕ) (l : AtomLayout) (found : ∥ IsAtomOf (contents 
       stand a is None (Some place) laid = laid
 
   -- where the choice begins
-  pub place_at : (k : ℕ) → slice_get (listed (places_in r l)) k ≡ choice_start r (atom_start (table_of (contents t)) i) (atom_of t i) k
+  pub place_at : (k : ℕ) → slice_get (row_items (places_in r l)) k ≡ choice_start r (atom_start (table_of (contents t)) i) (atom_of t i) k
   place_at k =
-      by_atom (λ o. slice_get (listed (places_in r l)) k ≡ choice_start r (atom_start (table_of (contents t)) i) o k) (λ o. Coded-set (coded_option coded_ℕ) _ _)
-      (λ a is h. begins a (slice_get (choices_in r (Some a)) k) (slice_get (listed (places_in r l)) k) ((choices_laid (contents t) (atom_start (table_of (contents t)) i) a l r h).each k))
+      by_atom (λ o. slice_get (row_items (places_in r l)) k ≡ choice_start r (atom_start (table_of (contents t)) i) o k) (λ o. Coded-set (coded_option coded_ℕ) _ _)
+      (λ a is h. begins a (slice_get (choices_in r (Some a)) k) (slice_get (row_items (places_in r l)) k) ((choices_laid (contents t) (atom_start (table_of (contents t)) i) a l r h).each k))
     where
       begins : (a : TableAtom) (c : Option TableChoice) (p : Option ℕ) → Paired (IsChoiceAt (contents t) (first_choice r (atom_start (table_of (contents t)) i) a) (seen_in r a.reads a.awaits) (size a.controls) (take k (choices_in r (Some a)))) c p → p ≡ option_map (λ _. choices_end (first_choice r (atom_start (table_of (contents t)) i) a) (take k (choices_in r (Some a)))) c
       begins a (Some c) (Some place) laid = ap Some laid.begins
@@ -141,12 +141,12 @@ module _ (t : Table) (i : ℕ) (l : AtomLayout) (found : ∥ IsAtomOf (contents 
       begins a (Some c) None laid = absurd laid
       begins a None (Some place) laid = absurd laid
 
-  pub place_told : (xs : List ℕ) (k : ℕ) (r' : Option (Bor ℕ)) (p : Option ℕ) → xs ≡ listed (places_in r l) → IsItemAt xs k r' → p ≡ option_copied r' → p ≡ choice_place (table_of (contents t)) r i k
+  pub place_told : (xs : List ℕ) (k : ℕ) (r' : Option (Bor ℕ)) (p : Option ℕ) → xs ≡ row_items (places_in r l) → IsItemAt xs k r' → p ≡ option_copied r' → p ≡ choice_place (table_of (contents t)) r i k
   place_told xs k r' p same h e = e ∙ item_at xs k r' h ∙ ap (λ ys. slice_get ys k) same ∙ place_at k
 
-  pub choice_told : (xs : List ℕ) (k : ℕ) (r' : Option (Bor ℕ)) (p : Option ℕ) → xs ≡ listed (places_in r l) → IsItemAt xs k r' → p ≡ option_copied r' → ∥ IsChoiceOf (contents t) (controlled (atom_of t i)) (choice_of t r i k) p ∥₁
+  pub choice_told : (xs : List ℕ) (k : ℕ) (r' : Option (Bor ℕ)) (p : Option ℕ) → xs ≡ row_items (places_in r l) → IsItemAt xs k r' → p ≡ option_copied r' → ∥ IsChoiceOf (contents t) (controlled (atom_of t i)) (choice_of t r i k) p ∥₁
   choice_told xs k r' p same h e =
-      let is : p ≡ slice_get (listed (places_in r l)) k = e ∙ item_at xs k r' h ∙ ap (λ ys. slice_get ys k) same in
+      let is : p ≡ slice_get (row_items (places_in r l)) k = e ∙ item_at xs k r' h ∙ ap (λ ys. slice_get ys k) same in
       subst (λ o. ∥ IsChoiceOf (contents t) (controlled (atom_of t i)) (choice_of t r i k) o ∥₁) (sym is) (choice_at k)
 
 -- an atom that is not there has no choice that begins anywhere

@@ -1,6 +1,6 @@
 -- How a layout tells where the parts of a table lie.
 use Rattle.std.specs.Prelude.{◌≡◌, ℕ, List}
-use Rattle.model.specs.Rows.{listed}
+use Rattle.model.specs.Rows.{row_items}
 use Rattle.model.specs.Sets.{has}
 use Rattle.model.specs.declared.Round.TheVariants.{Initial, Update}
 use Rattle.model.specs.declared.row.Row.{Row}
@@ -20,7 +20,7 @@ pub record IsChoiceAt (bs : List ℕ) (start : ℕ) (s : Seen) (count : ℕ) (be
 
 -- the choices, of which the first begins at `start`, are those that stand at these places
 abbrev pub AreChoicesAt : List ℕ → ℕ → Seen → ℕ → List TableChoice → Row ℕ 8 → Type 0
-AreChoicesAt bs start s count cs places = Each (IsChoiceAt bs start s count) cs (listed places)
+AreChoicesAt bs start s count cs places = Each (IsChoiceAt bs start s count) cs (row_items places)
 
 -- the atom, which begins at `start`, has these sets, and its choices lie at these places
 pub record IsAtomAt (bs : List ℕ) (start : ℕ) (a : TableAtom) (l : AtomLayout) : Type 0 where
@@ -32,7 +32,7 @@ pub record IsAtomAt (bs : List ℕ) (start : ℕ) (a : TableAtom) (l : AtomLayou
 
 -- each atom begins behind those before it, the first at `start`
 abbrev pub AreAtomsAt : List ℕ → ℕ → List TableAtom → Row AtomLayout 16 → Type 0
-AreAtomsAt bs start xs atoms = Each (λ before. IsAtomAt bs (atoms_end start before)) xs (listed atoms)
+AreAtomsAt bs start xs atoms = Each (λ before. IsAtomAt bs (atoms_end start before)) xs (row_items atoms)
 
 -- the layout of the table that begins at `start` in these bytes
 pub record IsLayout (bs : List ℕ) (start : ℕ) (t : TableSyntax) (l : Layout) : Type 0 where

@@ -5,7 +5,7 @@ ghost use Rattle.table.specs.Layouts.{IsAtomAt, AreAtomsAt};
 ghost use Rattle.table.specs.Reads.{Reads};
 ghost use Rattle.table.specs.Sets.{NamesOf};
 ghost use Rattle.table.specs.Variables.{AreVariables};
-ghost use Rattle.model.specs.Rows.{listed};
+ghost use Rattle.model.specs.Rows.{row_items};
 ghost use Rattle.std.specs.Prelude.{◌≡◌, ℕ, ◌≤◌, List, []};
 
 use crate::parts::AtomLayout;
@@ -28,8 +28,8 @@ fn seen_in(round: Round, reads: Names, awaits: Names) -> Seen
 
 // An atom without names and choices, which fills the places that no atom takes.
 fn no_atom() -> AtomLayout
-    ensures initial { listed result.initial ≡ [] }
-    ensures update { listed result.update ≡ [] }
+    ensures initial { row_items result.initial ≡ [] }
+    ensures update { row_items result.update ≡ [] }
 {
     AtomLayout {
         controls: Names::none(),

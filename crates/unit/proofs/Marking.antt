@@ -1,7 +1,7 @@
 -- A claim under another mark.
 use Rattle.std.proofs.Common.{◌≡◌, ℕ, zero, suc, true, List, [], ◌∷◌, map, Some, slice_get, slice_set, sym, refl, ap, ◌∙◌, subst, length, ◌≤◌, arith}
 use Rattle.std.proofs.lemmas.Bool.{false≢true}
-use Rattle.model.specs.Rows.{listed}
+use Rattle.model.specs.Rows.{row_items}
 use Rattle.unit.specs.Claims.{claim_of, mark_of}
 use Rattle.unit.specs.Truths.{is_good, read, truth_of, is_truth}
 use Rattle.unit.specs.declared.claims.Claim.{Claim}
@@ -25,7 +25,7 @@ same_claim p q a b e f = cc
 -- under another mark a claim says what it said
 pub claim_marked : (c d : Claim) (mark : Mark) → d.bytes ≡ c.bytes → d.mark ≡ mark → claim_of d ≡ record { says = (claim_of c).says; mark = mark_of mark }
 claim_marked c d mark bytes marked =
-    let says : (claim_of d).says ≡ (claim_of c).says = truth_same (listed d.bytes) (listed c.bytes) (ap listed bytes) d.right c.right in
+    let says : (claim_of d).says ≡ (claim_of c).says = truth_same (row_items d.bytes) (row_items c.bytes) (ap row_items bytes) d.right c.right in
     same_claim _ _ _ _ says (ap mark_of marked)
 
 pub table_marked : (cs : List Claim) (number : ℕ) (c d : Claim) (mark : Mark) → slice_get cs number ≡ Some c → d.bytes ≡ c.bytes → d.mark ≡ mark → map claim_of (slice_set cs number d) ≡ claims_marked number (mark_of mark) (map claim_of cs)

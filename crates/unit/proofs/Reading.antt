@@ -12,7 +12,7 @@ use Rattle.expression.specs.Checking.{checked, seen_of}
 use Rattle.expression.specs.declared.checking.Seen.{Seen as Names}
 use Rattle.units.specs.Units.{claim_reading, claim_sight}
 use Rattle.std.specs.Result.{result_ok}
-use Rattle.model.specs.Rows.{listed}
+use Rattle.model.specs.Rows.{row_items}
 use Rattle.unit.specs.Claims.{claim_made, claim_of, mark_of}
 use Rattle.unit.specs.declared.claims.Claim.{Claim}
 use Rattle.unit.specs.declared.claims.Mark.TheVariants.{Open}
@@ -102,10 +102,10 @@ module _ (m : Meaning) (bs : List ℕ) where
   pub check_is_truth : checked (expression_fault (whole_truth 8 (claim_sight m) bs)) ≡ Ok tt → is_truth bs ≡ true
   check_is_truth h = let found = passes h in ap is_good (read_again (claim_sight m) bs found.0 found.1 found.2)
 
-  pub check_made : (c : Claim) → listed c.bytes ≡ bs → c.mark ≡ Open → checked (expression_fault (whole_truth 8 (claim_sight m) bs)) ≡ Ok tt →
+  pub check_made : (c : Claim) → row_items c.bytes ≡ bs → c.mark ≡ Open → checked (expression_fault (whole_truth 8 (claim_sight m) bs)) ≡ Ok tt →
       Some (claim_of c) ≡ claim_made (claim_reading m bs)
   check_made c written marked h =
       let found = passes h in
       let few : length bs ≤ 64 = subst (λ xs. length xs ≤ 64) written (omega (arith, length-take c.bytes.count c.bytes.items, c.bytes.full)) in
-      let says : (claim_of c).says ≡ found.0 = truth_is (listed c.bytes) found.0 found.1 c.right (ap (whole_truth 8 everything) written ∙ read_again (claim_sight m) bs found.0 found.1 found.2) in
+      let says : (claim_of c).says ≡ found.0 = truth_is (row_items c.bytes) found.0 found.1 c.right (ap (whole_truth 8 everything) written ∙ read_again (claim_sight m) bs found.0 found.1 found.2) in
       ap Some (same_claim _ _ _ _ says (ap mark_of marked)) ∙ sym (ap claim_made (claim_read found.0 found.1 few found.2))

@@ -46,7 +46,7 @@ run_judged u number bs = unless_refused (refute_refusal u number bs) (length (st
 pub record ClaimAccepted (u : UnitModel) (bs : List ℕ) (c : claims.Claim) : Type 0 where
   pub accepted : claim_refusal u bs ≡ None
   pub added : claims_with u.claims (claim_reading u.meaning bs) ≡ u.claims ++ claim_of c ∷ []
-  pub written : listed c.bytes ≡ bs
+  pub written : row_items c.bytes ≡ bs
   pub read : is_wrong_reading (claim_reading u.meaning bs) ≡ false
   pub room : nat_le 8 (length u.claims) ≡ false
 

@@ -3,7 +3,7 @@ use Rattle.std.specs.Prelude.{◌≡◌, ℕ, ◌≤◌, List, map, Option, Matc
 use Rattle.std.specs.Borrow.{Fml, LendsIf, MutBor}
 use Rattle.arrayvec.specs.ArrayVec.{array_vec_len, with_item}
 use Rattle.language.specs.Expressions.{Truth, Reading, good, bad}
-use Rattle.model.specs.Rows.{listed}
+use Rattle.model.specs.Rows.{row_items}
 use Rattle.unit.specs.Truths.{truth_of}
 use Rattle.unit.specs.contracts.claims.Claim as claim
 use Rattle.unit.specs.contracts.claims.Claims as claims
@@ -21,7 +21,7 @@ mark_of Broken = broken
 
 -- a claim says what its bytes are
 abbrev pub claim_of : Claim → units.Claim
-claim_of c = record { says = truth_of (listed c.bytes) c.right; mark = mark_of c.mark }
+claim_of c = record { says = truth_of (row_items c.bytes) c.right; mark = mark_of c.mark }
 
 -- the claim that was read, before any evidence; none where something is wrong
 abbrev pub claim_made : Reading Truth → Option units.Claim

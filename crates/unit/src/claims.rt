@@ -1,7 +1,7 @@
 //! The claims on a unit.
 ghost use Rattle.std.specs.Borrow.{sem};
 ghost use Rattle.std.specs.Prelude.{◌≡◌, ◌∷◌, [], is_some, true};
-ghost use Rattle.model.specs.Rows.{listed};
+ghost use Rattle.model.specs.Rows.{row_items};
 ghost use Rattle.expression.specs.Checking.{seen_of};
 ghost use Rattle.unit.specs.Truths.{is_truth};
 ghost use Rattle.units.specs.Units.{claim_sight};
@@ -23,12 +23,12 @@ pub enum Mark {
 pub struct Claim {
     bytes: Row<u8, 64>,
     mark: Mark,
-    ghost right: { is_truth (listed bytes) ≡ true },
+    ghost right: { is_truth (row_items bytes) ≡ true },
 }
 
 // The byte that is always true, by itself.
 fn always() -> Row<u8, 64>
-    ensures { listed result ≡ 21 ∷ [] }
+    ensures { row_items result ≡ 21 ∷ [] }
 {
     let mut bytes = Row::empty(0);
     let _ = bytes.push(21);
@@ -71,7 +71,7 @@ impl Claim {
     /// and at most eight levels that sees old values of the module's variables alone.
     pub fn on<D: Drawing>(drawing: &D, bytes: &[u8]) -> Option<Claim>
         ensures made { option_map claim_of result ≡ claim_made (claim_reading (D.Drawing.meaning drawing.now) bytes.now) }
-        ensures written { IfSome result (λ claim. listed claim.bytes ≡ bytes.now) }
+        ensures written { IfSome result (λ claim. row_items claim.bytes ≡ bytes.now) }
     {
         let row = Row::from_slice(bytes, 0).ok()?;
         check_truth(bytes, &claim_names(drawing)).ok()?;

@@ -6,7 +6,7 @@ use Rattle.std.proofs.lemmas.Bool.Decides.{nat_tests}
 use Rattle.std.proofs.lemmas.Bool.{and_parts, cond-false, both_ways, le-leb}
 use Rattle.std.proofs.lemmas.Option.{slice_get_past}
 use Rattle.std.specs.List.{list_all, slice_get}
-use Rattle.model.specs.Meanings.{Valuation, Bytes, ChoiceLaws, most_choices}
+use Rattle.model.specs.Meanings.{Valuation, AreBytes, ChoiceLaws, most_choices}
 use Rattle.model.specs.declared.Round.{Round}
 use Rattle.model.specs.declared.Round.TheVariants.{Initial, Update}
 use Rattle.gates.specs.Choices.{Condition, Value, Bit, OldValue, Choice, choices_of, holds, worth, choice_count, is_open, given_by, opens_of, gives_of}
@@ -82,11 +82,11 @@ cond_self : (b : Bool) → ◌≡◌ {A = ℕ} (cond b 0 0) 0
 cond_self true = refl
 cond_self false = refl
 
-worth_byte : (r : Round) (p : Part) (v : Value) (old : Valuation) → value_fits r p v ≡ true → Bytes old → worth v old ≤ 255
+worth_byte : (r : Round) (p : Part) (v : Value) (old : Valuation) → value_fits r p v ≡ true → AreBytes old → worth v old ≤ 255
 worth_byte r p (Bit b) old f h = grind (arith, nat_tests)
 worth_byte r p (OldValue n) old f h = h n
 
-gives_byte : (r : Round) (p : Part) (k : ℕ) (old : Valuation) → small p ≡ true → Bytes old → gives_of r p k old ≤ 255
+gives_byte : (r : Round) (p : Part) (k : ℕ) (old : Valuation) → small p ≡ true → AreBytes old → gives_of r p k old ≤ 255
 gives_byte r p k old s h =
     by_choice r p k s (λ o. given_by o old ≤ 255) (omega arith) (λ c g v. worth_byte r p c.value old v h)
 

@@ -6,7 +6,7 @@ use borrow.Author.Differences.{up, down, ints}
 use Rattle.std.proofs.lemmas.List.{length-append}
 use Rattle.std.proofs.lemmas.Bool.{and_from, and_parts, eqb-true, ltb-true, lt-ltb, leb-true, le-leb}
 use Rattle.std.specs.List.{slice_get}
-use Rattle.model.specs.Meanings.{Valuation, Bytes}
+use Rattle.model.specs.Meanings.{Valuation, AreBytes}
 use Rattle.language.specs.Expressions.{Agree, Number, constant, old_value, new_value, sum, difference, Truth, equal, less, negation, conjunction, disjunction, always, number_bytes, truth_bytes, number_levels, truth_levels, number_value, truth_value, eqZ, Seen, number_sees, truth_sees, number_right, truth_right, as_byte, byte_at, Reading, good, bad, after, judged, good_byte, read_byte, one, two, NumberOperation, constant_follows, old_name_follows, new_name_follows, plus, minus, number_operator, TruthOperation, equals, less_than, not_follows, and_follows, or_follows, is_true, truth_operator, as_constant, as_name, number_operands, read_number, truth_operands, read_truth}
 
 -- these bytes stand at place k
@@ -285,7 +285,7 @@ pub record Bounded (e : Number) (z : ℤ) : Type 0 where
   pub high : up z ≤ down z + 255 * leaves e
   pub low : down z + 255 ≤ up z + 255 * leaves e
 
-pub number_bounded : (s : Seen) (e : Number) (old new : Valuation) → number_sees s e ≡ true → Bytes old → Bytes new → Bounded e (number_value e old new)
+pub number_bounded : (s : Seen) (e : Number) (old new : Valuation) → number_sees s e ≡ true → AreBytes old → AreBytes new → Bounded e (number_value e old new)
 number_bounded s (constant v) old new h p q = let small : v < 256 = ltb-true v 256 h in record { high = omega arith; low = omega arith }
 number_bounded s (old_value n) old new h p q = let small : old n ≤ 255 = p n in record { high = omega arith; low = omega arith }
 number_bounded s (new_value n) old new h p q = let small : new n ≤ 255 = q n in record { high = omega arith; low = omega arith }
@@ -298,11 +298,11 @@ number_bounded s (difference a b) old new h p q =
     let first = number_bounded s a old new both.0 p q in let second = number_bounded s b old new both.1 p q in
     record { high = omega (arith, ints, first, second); low = omega (arith, ints, first, second) }
 
-pub number_low : (s : Seen) (e : Number) (old new : Valuation) → number_sees s e ≡ true → Bytes old → Bytes new → length (number_bytes e) ≤ 64 → negsuc 5099 ≤ℤ number_value e old new
+pub number_low : (s : Seen) (e : Number) (old new : Valuation) → number_sees s e ≡ true → AreBytes old → AreBytes new → length (number_bytes e) ≤ 64 → negsuc 5099 ≤ℤ number_value e old new
 number_low s e old new h p q short =
     let b = number_bounded s e old new h p q in omega (arith, ints, b.high, b.low, number_length e)
 
-pub number_high : (s : Seen) (e : Number) (old new : Valuation) → number_sees s e ≡ true → Bytes old → Bytes new → length (number_bytes e) ≤ 64 → number_value e old new ≤ℤ pos 5355
+pub number_high : (s : Seen) (e : Number) (old new : Valuation) → number_sees s e ≡ true → AreBytes old → AreBytes new → length (number_bytes e) ≤ 64 → number_value e old new ≤ℤ pos 5355
 number_high s e old new h p q short =
     let b = number_bounded s e old new h p q in omega (arith, ints, b.high, b.low, number_length e)
 

@@ -7,7 +7,7 @@ use Rattle.std.proofs.lemmas.Option.{slice_get_past}
 use Rattle.std.proofs.lemmas.Bool.{and_parts, eqb-true, both_ways, false≢true, cases_lt}
 use Rattle.std.specs.List.{AllByRecursion, slice_get}
 use Rattle.model.proofs.Bounded.{every_decides}
-use Rattle.model.specs.Meanings.{Valuation, Bytes, OutlineLaws, ChoiceLaws, Alike, most_choices}
+use Rattle.model.specs.Meanings.{Valuation, AreBytes, OutlineLaws, ChoiceLaws, Alike, most_choices}
 use Rattle.model.specs.Tests.{every, some, implies, count}
 use Rattle.model.specs.declared.Fault.{Fault}
 use Rattle.model.specs.declared.Kind.TheVariants.{External}
@@ -323,10 +323,10 @@ module _ (t : TableSyntax) (right : TableRight t) where
   fits_seen : (s : Seen) (e : Number) → NumberFits s e → number_sees s e ≡ true
   fits_seen s e f = (and_parts (nat_le (number_levels e) 8) (number_sees s e) f.right).1
 
-  low_enough : (s : Seen) (old new : Valuation) → Bytes old → Bytes new → (e : Number) → NumberFits s e → negsuc 32767 ≤ℤ number_value e old new
+  low_enough : (s : Seen) (old new : Valuation) → AreBytes old → AreBytes new → (e : Number) → NumberFits s e → negsuc 32767 ≤ℤ number_value e old new
   low_enough s old new p q e f = omega (arith, ints, number_low s e old new (fits_seen s e f) p q f.short_enough)
 
-  high_enough : (s : Seen) (old new : Valuation) → Bytes old → Bytes new → (e : Number) → NumberFits s e → number_value e old new ≤ℤ pos 32767
+  high_enough : (s : Seen) (old new : Valuation) → AreBytes old → AreBytes new → (e : Number) → NumberFits s e → number_value e old new ≤ℤ pos 32767
   high_enough s old new p q e f = omega (arith, ints, number_high s e old new (fits_seen s e f) p q f.short_enough)
 
   -- values that look alike to the atom agree on what its choices see

@@ -1,6 +1,6 @@
 use Rattle.std.proofs.Common.{◌≡◌, ◌*◌, ◌≤◌, length, drop, None}
 use Rattle.gates.specs.Netlists.{breaks, parts_upto}
-use Rattle.model.specs.Rows.{listed}
+use Rattle.model.specs.Rows.{row_items}
 use Rattle.model.specs.Tests.{lowest}
 use Rattle.gates.proofs.reading.read.Given as goal
 
@@ -9,9 +9,9 @@ invariant-loop-rest l =
     record {
       inside : 5 * l.index ≤ length l.bytes;
       left : l.rest ≡ drop (5 * l.index) l.bytes;
-      read : listed l.parts ≡ parts_upto l.bytes l.index;
+      read : row_items l.parts ≡ parts_upto l.bytes l.index;
       fine : lowest (breaks l.bytes) l.index ≡ None;
-      few : l.index ≤ length (listed l.parts);
+      few : l.index ≤ length (row_items l.parts);
     }
 
 abbrev pub decreases-loop-rest : goal.decreases-loop-rest

@@ -1,6 +1,6 @@
 use Rattle.std.proofs.Common.{◌≡◌, ◌+◌, length, ap, subst, ◌∙◌, arith}
 use Rattle.std.proofs.lemmas.Result.{err_from_is_err_and}
-use Rattle.model.specs.Rows.{listed}
+use Rattle.model.specs.Rows.{row_items}
 use Rattle.table.specs.Layouts.{IsAtomAt, AreAtomsAt}
 use Rattle.language.specs.Tables.{atom_bytes}
 use Rattle.language.specs.laws.Reading.{atom_read}
@@ -22,7 +22,7 @@ returns-in_err-atom c =
 pub loop-preserved : goal.loop-preserved
 loop-preserved c =
     let atom = c.in_ok-atom.atom in let first = c.args.self.now in let before = c.loop.self in let next = c.atom.new.self.place in (
-      pushed_counts 16 (listed c.loop.atoms) (listed c.push.new.self) atom c.push.ensures c.unwrap.ensures ∙ ap (λ n. n + 1) c.loop.invariant.0,
+      pushed_counts 16 (row_items c.loop.atoms) (row_items c.push.new.self) atom c.push.ensures c.unwrap.ensures ∙ ap (λ n. n + 1) c.loop.invariant.0,
       λ vs laid.
           let so_far = c.loop.invariant.1 vs laid in
           reads_more so_far (λ made. AreAtomsAt first.bytes.now first.place made c.push.new.self × (next ≡ atoms_end first.place made)) (omega arith) (c.in_ok-atom.ensures vs laid)
