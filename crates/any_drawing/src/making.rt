@@ -7,8 +7,8 @@ ghost use Rattle.reactive.specs.Piles.{JoinsParts, RenamesPart, HidesPart};
 ghost use Rattle.std.specs.Prelude.{◌≡◌, IfOk, OnOk};
 
 use crate::{AnyDrawing, Node};
-use model::Outline;
 use gates::GateList;
+use model::Outline;
 use piles::{hide_fault, join_fault, rename_fault};
 use std::alloc::{AllocError, Global};
 use table::Table;

@@ -16,6 +16,9 @@ module _ {A : Type 0} (f : Option Fault) (nothing x : A) where
   pub sound_is : f ≡ None → sound_or f nothing x ≡ x
   sound_is e = ap (λ g. sound_or g nothing x) e
 
+  pub faulty_is : (g : Fault) → f ≡ Some g → sound_or f nothing x ≡ nothing
+  faulty_is g e = ap (λ h. sound_or h nothing x) e
+
 pub rename_sound : (o : OutlineFacts) (a b : ℕ) → MayRename o a b → fault_of_renamed o a b ≡ None
 rename_sound o a b h =
     ap (λ f. option_or (raised 1 f) (rename_fault o a b)) h.sound ∙

@@ -77,3 +77,6 @@ module _ (a b : ℕ) where
     exchanged_is s long =
         state_is (λ k. value s (exchange a b k)) (set (set s a (value s b)) b (value s a)) (length-set (set s a (value s b)) b (value s a) ∙ length-set s a (value s b) ∙ long)
         (λ n h. exchange_getD s 0 a b (omega arith) (omega arith) n)
+
+    pub value_exchanged : (s : List ℕ) → length s ≡ 32 → value (exchanged a b s) ≡ seen_below a b (value s)
+    value_exchanged s long = ap value (sym (exchanged_is s long)) ∙ fun_ext (λ n. exchange_getD s 0 a b (omega arith) (omega arith) n)

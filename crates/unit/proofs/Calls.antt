@@ -6,7 +6,7 @@ use Rattle.sealing.specs.Orders.{AtomsInOrder}
 use Rattle.units.specs.Life.{Came, by_claim, by_certify, by_refute}
 use Rattle.units.specs.Units.{UnitModel, claim, claim_reading, certify, is_wrong_reading, refute, unless, verdict_with}
 use Rattle.units.specs.declared.refusal.Refusal.{Refusal}
-use Rattle.model.specs.Rows.{listed}
+use Rattle.model.specs.Rows.{row_items}
 use Rattle.unit.specs.Calls.{answer_of, let_through}
 use Rattle.evidence.specs.Judging.{answer_of as unless_refused}
 use Rattle.unit.specs.Claims.{written_claims}
@@ -43,15 +43,15 @@ module _ (P : List ℕ → Type 0) (last : List ℕ) (here : P last) where
   appended (y ∷ ys) there zero x e = there zero x e
   appended (y ∷ ys) there (suc i) x e = appended ys (λ j z k. there (suc j) z k) i x e
 
-written_append : (xs : List Claim) (c : Claim) → map (λ x. listed x.bytes) (xs ++ c ∷ []) ≡ map (λ x. listed x.bytes) xs ++ listed c.bytes ∷ []
+written_append : (xs : List Claim) (c : Claim) → map (λ x. row_items x.bytes) (xs ++ c ∷ []) ≡ map (λ x. row_items x.bytes) xs ++ row_items c.bytes ∷ []
 written_append [] c = refl
-written_append (x ∷ xs) c = ap (λ rest. listed x.bytes ∷ rest) (written_append xs c)
+written_append (x ∷ xs) c = ap (λ rest. row_items x.bytes ∷ rest) (written_append xs c)
 
 -- a claim added behind the others
-pub added_see : (m : Meaning) (old new : Claims) (c : Claim) → new.table.items ≡ old.table.items ++ c ∷ [] → is_wrong_reading (claim_reading m (listed c.bytes)) ≡ false → ClaimsSee m old → ClaimsSee m new
+pub added_see : (m : Meaning) (old new : Claims) (c : Claim) → new.table.items ≡ old.table.items ++ c ∷ [] → is_wrong_reading (claim_reading m (row_items c.bytes)) ≡ false → ClaimsSee m old → ClaimsSee m new
 added_see m old new c e right there number bs k =
-    appended (λ xs. is_wrong_reading (claim_reading m xs) ≡ false) (listed c.bytes) right (written_claims old) there number bs
-    (ap (λ items. slice_get items number) (sym (ap (map (λ x. listed x.bytes)) e ∙ written_append old.table.items c)) ∙ k)
+    appended (λ xs. is_wrong_reading (claim_reading m xs) ≡ false) (row_items c.bytes) right (written_claims old) there number bs
+    (ap (λ items. slice_get items number) (sym (ap (map (λ x. row_items x.bytes)) e ∙ written_append old.table.items c)) ∙ k)
 
 -- What is answered and left, where nothing is refused and where something is.
 module _ (f : Option Refusal) (u after : UnitModel) (a : ℕ) where

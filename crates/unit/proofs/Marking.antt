@@ -42,9 +42,9 @@ marked_beyond [] number mark there = refl
 marked_beyond (x ∷ xs) zero mark there = absurd (omega arith)
 marked_beyond (x ∷ xs) (suc number) mark there = ap (λ rest. claim_of x ∷ rest) (marked_beyond xs number mark (omega arith))
 
-pub written_same : (cs : List Claim) (number : ℕ) (c d : Claim) → slice_get cs number ≡ Some c → d.bytes ≡ c.bytes → map (λ x. listed x.bytes) (slice_set cs number d) ≡ map (λ x. listed x.bytes) cs
+pub written_same : (cs : List Claim) (number : ℕ) (c d : Claim) → slice_get cs number ≡ Some c → d.bytes ≡ c.bytes → map (λ x. row_items x.bytes) (slice_set cs number d) ≡ map (λ x. row_items x.bytes) cs
 written_same [] number c d there bytes = refl
 written_same (x ∷ xs) zero c d there bytes =
     let same : x ≡ c = cc in
-    ap (λ first. first ∷ map (λ y. listed y.bytes) xs) (ap listed (bytes ∙ sym (ap (λ y. y.bytes) same)))
-written_same (x ∷ xs) (suc number) c d there bytes = ap (λ rest. listed x.bytes ∷ rest) (written_same xs number c d there bytes)
+    ap (λ first. first ∷ map (λ y. row_items y.bytes) xs) (ap row_items (bytes ∙ sym (ap (λ y. y.bytes) same)))
+written_same (x ∷ xs) (suc number) c d there bytes = ap (λ rest. row_items x.bytes ∷ rest) (written_same xs number c d there bytes)

@@ -1,6 +1,6 @@
 -- What a new unit keeps, and what its verdict tells of the drawing.
 use Rattle.std.proofs.Common.{◌≡◌, ℕ, Bool, false, List, [], map, replicate, slice_get, Some, None, Option, sym, refl, ap, ◌∙◌, subst, arith}
-use Rattle.model.specs.Rows.{listed}
+use Rattle.model.specs.Rows.{row_items}
 use Rattle.model.specs.Meanings.{OutlineFacts, Meaning}
 use Rattle.units.specs.Sealing.{verdict, if_so, ◌else◌}
 use Rattle.units.specs.Life.{Came, by_seal}
@@ -41,7 +41,7 @@ kept_unfit v o order r e h = h ∙ sym (ap (λ w. order_kept w o) e)
 -- a table without claims has none that sees too much
 pub none_see : (m : Meaning) (cs : Claims) → cs.table.items ≡ [] → ClaimsSee m cs
 none_see m cs e number bs there =
-    let z : ◌≡◌ {A = ℕ} 0 1 = let gone : None ≡ Some bs = sym (ap (λ items. slice_get (map (λ c. listed c.bytes) items) number) e) ∙ there in cc in
+    let z : ◌≡◌ {A = ℕ} 0 1 = let gone : None ≡ Some bs = sym (ap (λ items. slice_get (map (λ c. row_items c.bytes) items) number) e) ∙ there in cc in
     absurd (omega arith)
 
 -- outside of a round no atom has fired

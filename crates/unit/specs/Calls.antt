@@ -1,6 +1,6 @@
 -- What calls on a unit answer.
 use Rattle.std.specs.Prelude.{◌≡◌, ℕ, false, List, [], ◌∷◌, ◌++◌, length, nat_le, Some, None, Ok, Err, Option, Result}
-use Rattle.model.specs.Rows.{listed}
+use Rattle.model.specs.Rows.{row_items}
 use Rattle.evidence.specs.Judging.{answer_of as unless_refused}
 use Rattle.unit.specs.Claims.{claim_of}
 use Rattle.unit.specs.declared.claims.Claim as claims

@@ -33,7 +33,7 @@ claims_of cs = map claim_of cs.table.items
 
 -- the claims as they were written
 abbrev pub written_claims : Claims → List (List ℕ)
-written_claims cs = map (λ c. listed c.bytes) cs.table.items
+written_claims cs = map (λ c. row_items c.bytes) cs.table.items
 
 -- the claims with another one under this number
 abbrev pub with_claim : Claims → ℕ → Claim → Claims
