@@ -6,7 +6,7 @@
 //! second to the other's flag negated. It enters where the other is outside; else the first where the flags differ, the second where
 //! they agree.
 use crate::parts::is_fit;
-use model::{Drawing, Kind, Outline, Round, State, value_of};
+use model::{Drawing, Fault, Kind, Outline, Round, State, value_of};
 use piles::{Hide, Join};
 use samples::{Moment, has_sets, opens_just};
 use std::test::Fail;
@@ -93,6 +93,10 @@ fn outlines_of_both_processes_and_of_the_protocol(rt: HostRuntime) {
     assert!(rt; second.atoms() == 1 && is_process(&second, 0, &[2, 3]));
     assert!(rt; protocol.atoms() == 2 && protocol.layers() == 5);
     assert!(rt; is_process(&protocol, 0, &[0, 1]) && is_process(&protocol, 1, &[2, 3]));
+    assert_eq!(rt;
+        Table::open(&FIRST[..100]).fault(),
+        Some(Fault::own(2, 100))
+    );
 }
 
 // By old state: the open update choices of the first process and of the second, by themselves and in the protocol.
@@ -141,7 +145,14 @@ fn given_values(rt: HostRuntime) {
             );
         }
     }
-    assert!(rt; first().gives(Round::Initial, 0, 1, 1, [0; 32], [0; 32]) == 1);
+    // the first may begin with its flag set
+    for (name, number) in (0..4u8).zip([0, 1, 0, 0]) {
+        assert_eq!(rt;
+            first().gives(Round::Initial, 0, 1, name, [0; 32], [0; 32]),
+            number,
+            "name {name}"
+        );
+    }
 }
 
 #[test]
