@@ -4,8 +4,9 @@
 #[cfg(test)]
 mod claiming;
 #[cfg(test)]
-mod parts;
+mod judged;
 #[cfg(test)]
+mod parts;
 mod peterson;
 #[cfg(test)]
 mod piled;
