@@ -7,6 +7,7 @@ mod claiming;
 mod judged;
 #[cfg(test)]
 mod parts;
+#[cfg(test)]
 mod peterson;
 #[cfg(test)]
 mod piled;
