@@ -1,6 +1,6 @@
 //! What is wrong with a rename, a hide or a join, judged from the outlines alone. A fault below comes before a layer's
 //! own, and one of the left part before one of the right.
-ghost use Rattle.std.specs.Prelude.{◌≡◌};
+ghost use Rattle.std.specs.Prelude.{◌≡◌, ◌+◌, nat_lt};
 ghost use Rattle.composition.specs.Faults.{clashes, differs, join_fault, up_to_255, deeper, fault_of_renamed, fault_of_hidden, fault_of_joined};
 ghost use Rattle.model.specs.Tests.{lowest};
 
@@ -70,19 +70,25 @@ impl<L: Outline, R: Outline> Parts<'_, L, R> {
         lowest_below(32, |name| self.differ(name))
     }
 
+    // Do they have too many atoms together?
+    fn are_crowded(&self) -> bool
+        ensures { result ≡ nat_lt 16 ((L.Outline.outline self.now.left.now).atoms + (R.Outline.outline self.now.right.now).atoms) }
+    {
+        let atoms = u16::from(self.left.atoms()) + u16::from(self.right.atoms());
+        atoms > ATOMS
+    }
+
     // What is wrong with the join of two drawings that have no fault themselves.
     fn own_fault(&self) -> Option<Fault>
         ensures { result ≡ join_fault (L.Outline.outline self.now.left.now) (R.Outline.outline self.now.right.now) }
     {
-        let atoms = u16::from(self.left.atoms()) + u16::from(self.right.atoms());
-        let clash = self
-            .lowest_clash()
-            .map(|name| Rule::KindsAgree.broken(name));
-        let difference = self
-            .lowest_difference()
-            .map(|name| Rule::TopsAgree.broken(name));
-        let crowd = (atoms > ATOMS).then(|| Rule::FewAtoms.broken(0));
-        clash.or(difference).or(crowd)
+        if let Some(name) = self.lowest_clash() {
+            return Some(Rule::KindsAgree.broken(name));
+        }
+        if let Some(name) = self.lowest_difference() {
+            return Some(Rule::TopsAgree.broken(name));
+        }
+        self.are_crowded().then(|| Rule::FewAtoms.broken(0))
     }
 }
 
@@ -90,10 +96,13 @@ impl<L: Outline, R: Outline> Parts<'_, L, R> {
 pub fn join_fault<L: Outline, R: Outline>(left: &L, right: &R) -> Option<Fault>
     ensures { result ≡ fault_of_joined (L.Outline.outline left.now) (R.Outline.outline right.now) }
 {
-    let below = 1 + u16::from(left.layers());
     left.fault()
         .map(|fault| deeper(fault, 1))
-        .or_else(|| right.fault().map(|fault| deeper(fault, below)))
+        .or_else(|| {
+            right
+                .fault()
+                .map(|fault| deeper(fault, 1 + u16::from(left.layers())))
+        })
         .or_else(|| Parts { left, right }.own_fault())
 }
 
