@@ -171,7 +171,7 @@ impl fmt::Display for VerdictReport {
             Some(refusal) => write!(f, "not fit: {}", RefusalWords(refusal))?,
         }
         match &self.witness {
-            Some(witness) => write!(f, ", {witness}"),
+            Some(witness) => write!(f, " {witness}"),
             None => Ok(()),
         }
     }

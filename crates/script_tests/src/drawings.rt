@@ -36,7 +36,7 @@ fn tables_and_their_verdicts(rt: HostRuntime) -> Result<(), Fail> {
         ),
         (
             "seal u t 1",
-            "16 0 0 -- unit u is not fit: an open choice gives a value out of range: atom 0, in an update round at old 0 = 0",
+            "16 0 0 -- unit u is not fit: an open choice of atom 0 gives a value out of range in an update round at old 0 = 0",
         ),
     ];
     let heap = rt.alloc();
@@ -58,7 +58,7 @@ fn piles_and_their_verdicts(rt: HostRuntime) -> Result<(), Fail> {
         ("join a a b", "0 0 0 -- a is a join without fault"),
         (
             "seal u a 0",
-            "13 0 0 -- unit u is not fit: an atom awaits itself: atom 0",
+            "13 0 0 -- unit u is not fit: atom 0 awaits itself, directly or through others",
         ),
         (
             "gates a 0000FF01FF",

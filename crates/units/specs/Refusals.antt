@@ -40,13 +40,13 @@ refusal_fault AtomsMissing = own 36 0
 -- a refusal in words
 abbrev pub refusal_words : Refusal → List ℕ
 refusal_words (FaultyDrawing fault) = codes "the drawing has the fault " ++ fault_text fault
-refusal_words (NotOneController name) = codes "not exactly one atom controls name " ++ decimal name
-refusal_words (AwaitsItself atom) = codes "an atom awaits itself: atom " ++ decimal atom
-refusal_words (SeesTooMuch atom) = codes "an atom sees more than 65,536 combinations of values: atom " ++ decimal atom
-refusal_words (GetsStuck atom) = codes "no choice is open at some values: atom " ++ decimal atom
-refusal_words (LeavesRange atom) = codes "an open choice gives a value out of range: atom " ++ decimal atom
-refusal_words TooWide = codes "rounds can go in more than 1,048,576 ways"
-refusal_words TooManyClaims = codes "more than eight claims come together"
+refusal_words (NotOneController name) = codes "name " ++ decimal name ++ codes " is not controlled by exactly one atom"
+refusal_words (AwaitsItself atom) = codes "atom " ++ decimal atom ++ codes " awaits itself, directly or through others"
+refusal_words (SeesTooMuch atom) = codes "atom " ++ decimal atom ++ codes " sees more than 65536 combinations of values"
+refusal_words (GetsStuck atom) = codes "atom " ++ decimal atom ++ codes " has no open choice"
+refusal_words (LeavesRange atom) = codes "an open choice of atom " ++ decimal atom ++ codes " gives a value out of range"
+refusal_words TooWide = codes "a round can go in more ways than 1048576"
+refusal_words TooManyClaims = codes "it was brought more than eight claims"
 refusal_words NotIdle = codes "a state stands or a round is open"
 refusal_words NoRoomForClaim = codes "the unit has eight claims already"
 refusal_words WrongClaim = codes "the bytes are no claim on this module"

@@ -107,7 +107,7 @@ impl From<Refusal> for Fault {
     }
 }
 
-// The words say what is refused; which name, atom or state it is stands at the end.
+// The words say what is refused, and of which name, atom or state.
 impl fmt::Display for Refusal {
     ghost output = { λ refusal. Some (refusal_words refusal) };
 
@@ -116,23 +116,23 @@ impl fmt::Display for Refusal {
             Refusal::FaultyDrawing(fault) => write!(f, "the drawing has the fault {fault}"),
             Refusal::NotOneController { name } => write!(
                 f,
-                "not exactly one atom controls name {name}"
+                "name {name} is not controlled by exactly one atom"
             ),
-            Refusal::AwaitsItself { atom } => write!(f, "an atom awaits itself: atom {atom}"),
+            Refusal::AwaitsItself { atom } => write!(
+                f,
+                "atom {atom} awaits itself, directly or through others"
+            ),
             Refusal::SeesTooMuch { atom } => write!(
                 f,
-                "an atom sees more than 65,536 combinations of values: atom {atom}"
+                "atom {atom} sees more than 65536 combinations of values"
             ),
-            Refusal::GetsStuck { atom } => write!(
-                f,
-                "no choice is open at some values: atom {atom}"
-            ),
+            Refusal::GetsStuck { atom } => write!(f, "atom {atom} has no open choice"),
             Refusal::LeavesRange { atom } => write!(
                 f,
-                "an open choice gives a value out of range: atom {atom}"
+                "an open choice of atom {atom} gives a value out of range"
             ),
-            Refusal::TooWide => f.write_str("rounds can go in more than 1,048,576 ways"),
-            Refusal::TooManyClaims => f.write_str("more than eight claims come together"),
+            Refusal::TooWide => f.write_str("a round can go in more ways than 1048576"),
+            Refusal::TooManyClaims => f.write_str("it was brought more than eight claims"),
             Refusal::NotIdle => f.write_str("a state stands or a round is open"),
             Refusal::NoRoomForClaim => f.write_str("the unit has eight claims already"),
             Refusal::WrongClaim => f.write_str("the bytes are no claim on this module"),
