@@ -66,43 +66,35 @@ fn naming_below(naming: State, old: u8, new: u8) -> State {
     Exchange::of(old, new).map_or(naming, |exchange| exchange.state(naming))
 }
 
-fn add_lines_below(
-    heap: Global,
-    text: &mut String,
-    drawing: &AnyDrawing,
+// The table that has the atom and the atom's number there, none where a gate list has it. What each name is called at the top becomes
+// what the table's names are called there. Nothing is told on the way down: a layer takes little of the stack, since piles are deep.
+fn table_with<'a>(
+    drawing: &'a AnyDrawing,
     atom: u8,
-    naming: State,
-) -> Result<(), AllocError> {
+    naming: &mut State,
+) -> Option<(&'a Table, u8)> {
     match drawing.node() {
-        Node::Table(table) => {
-            for round in [Round::Initial, Round::Update] {
-                let choices = Choices {
-                    table,
-                    round,
-                    atom,
-                    naming,
-                };
-                choices.add_lines(heap, text)?;
-            }
-            Ok(())
-        }
-        Node::Gates(_) => Ok(()),
+        Node::Table(table) => Some((table, atom)),
+        Node::Gates(_) => None,
         Node::Join {
             left,
             right,
             left_atoms,
             ..
         } => match atom.checked_sub(*left_atoms) {
-            None => add_lines_below(heap, text, left, atom, naming),
-            Some(atom) => add_lines_below(heap, text, right, atom, naming),
+            None => table_with(left, atom, naming),
+            Some(atom) => table_with(right, atom, naming),
         },
         Node::Rename {
             below,
             old,
             new,
             ..
-        } => add_lines_below(heap, text, below, atom, naming_below(naming, *old, *new)),
-        Node::Hide { below, .. } => add_lines_below(heap, text, below, atom, naming),
+        } => {
+            *naming = naming_below(*naming, *old, *new);
+            table_with(below, atom, naming)
+        }
+        Node::Hide { below, .. } => table_with(below, atom, naming),
     }
 }
 
@@ -111,12 +103,18 @@ fn add_lines_below(
 pub fn choice_lines(heap: Global, drawing: &AnyDrawing, atom: u8) -> Result<String, AllocError> {
     let mut text = String::new(heap);
     // At the top each name is called by itself.
-    add_lines_below(
-        heap,
-        &mut text,
-        drawing,
-        atom,
-        array::from_fn(|name| name as u8),
-    )?;
+    let mut naming = array::from_fn(|name| name as u8);
+    let Some((table, atom)) = table_with(drawing, atom, &mut naming) else {
+        return Ok(text);
+    };
+    for round in [Round::Initial, Round::Update] {
+        let choices = Choices {
+            table,
+            round,
+            atom,
+            naming,
+        };
+        choices.add_lines(heap, &mut text)?;
+    }
     Ok(text)
 }
