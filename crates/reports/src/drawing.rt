@@ -5,13 +5,13 @@ use std::fmt;
 
 /// What is told of a drawing that was made: the name that it is bound to, what it is in a word or two, and its fault, if any.
 #[derive(Drop)]
-pub struct DrawingReport {
+pub struct DrawingReport<'a> {
     pub name: String,
-    pub what: &'static str,
+    pub what: &'a str,
     pub fault: Option<Fault>,
 }
 
-impl fmt::Display for DrawingReport {
+impl fmt::Display for DrawingReport<'_> {
     fn fmt<W: fmt::Write>(&self, f: &mut fmt::Formatter<W>) -> fmt::Result {
         write!(f, "{} -- {} is a ", FaultNumbers(self.fault), self.name)?;
         match self.fault {

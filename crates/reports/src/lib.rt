@@ -14,6 +14,7 @@ mod verdict;
 
 pub use ask::ChoiceReport;
 pub use assignment::Assignment;
+pub use choices::choice_lines;
 pub use drawing::DrawingReport;
 pub use facts::{Atom, Variable, atoms, variables};
 pub use faults::{FaultNumbers, FaultWords};

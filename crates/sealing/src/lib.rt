@@ -17,7 +17,10 @@ mod width;
 mod witness;
 mod witnesses;
 
+pub use atom_in_round::first_witness;
+pub use await_table::AwaitTable;
 pub use order::order_of;
+pub use query::Failure;
 pub use verdict::judge;
 pub use witness::Witness;
 pub use witnesses::{outside_at, stuck_at};
