@@ -8,9 +8,13 @@ use Rattle.model.specs.Meanings.{Meaning}
 use Rattle.script.specs.declared.binding.Binding.{Binding}
 use Rattle.script.specs.declared.binding.Binding.TheVariants.{Drawing, SealedUnit}
 use Rattle.script.specs.declared.binding.BoundUnit.{BoundUnit}
-use Rattle.script.specs.declared.bindings.Bindings.{Bindings}
+use Rattle.script.specs.declared.bindings.ByName.{ByName}
 use Rattle.unit.specs.States.{model_of}
 use Rattle.units.specs.Units.{UnitModel}
+
+-- each name stands for one drawing or unit, or for nothing
+abbrev pub Bindings : Type 0
+Bindings = ByName Binding
 
 abbrev pub meaning_of : Pile → Meaning
 meaning_of d = any_meaning d

@@ -8,7 +8,7 @@ pub enum Answer {
     /// No name stands for anything any more.
     Forgotten,
     /// A drawing was made.
-    Drawing(DrawingReport),
+    Drawing(DrawingReport<'static>),
     /// A unit was sealed, or asked for its verdict.
     Verdict(VerdictReport),
     /// A drawing was asked for its outline.

@@ -11,14 +11,18 @@ use any_drawing::AnyDrawing;
 use std::alloc::Global;
 use std::collections::BTreeMap;
 
-/// Each name stands for one drawing or unit, or for nothing.
+/// What names stand for: each for one thing, or for nothing.
 #[derive(Drop)]
-pub struct Bindings {
-    map: BTreeMap<String, Binding>,
+pub struct ByName<T> {
+    map: BTreeMap<String, T>,
     ghost lawful: { IsOrdered string_cmp map } by { Prim.hlevel props },
 }
 
-impl Bindings {
+/// Each name stands for one drawing or unit, or for nothing. What it is is a parameter of the type: that names may go to another thread
+/// is then proved once, for things of any kind, and a check finds it of a session.
+pub type Bindings = ByName<Binding>;
+
+impl ByName<Binding> {
     ghost use Rattle.script.specs.declared.mistake.Mistake.TheVariants.{UnknownName, NoMemory};
     ghost use Rattle.script.specs.Bindings.{binding_of, IsEmpty, Binds, SameBindings, BindsDrawing};
     ghost use Rattle.script.specs.Bindings.{BindsUnit, Unbinds, TakesTwo};
@@ -30,7 +34,7 @@ impl Bindings {
     pub fn new(heap: Global) -> Bindings
         ensures { IsEmpty result }
     {
-        Bindings {
+        ByName {
             map: BTreeMap::new(heap),
         }
     }

@@ -18,8 +18,8 @@ use unit::Unit;
 /// A script under way: what its names stand for.
 #[derive(Drop)]
 pub struct Session {
-    heap: Global,
     bindings: Bindings,
+    heap: Global,
 }
 
 fn text_of(line: &[u8]) -> Result<&str, Mistake>

@@ -5,6 +5,15 @@ use std::test::Fail;
 
 const NAND: &str = "gates d 01000102FF0002FF03FF";
 
+// What it is called with may go to another thread.
+fn may_be_sent<T: Send>(_value: &T) {}
+
+#[test]
+fn a_session_may_be_sent(rt: HostRuntime) -> Result<(), Fail> {
+    may_be_sent(&new_session(rt.alloc()));
+    Ok(())
+}
+
 #[test]
 fn blank_lines_and_comments(rt: HostRuntime) -> Result<(), Fail> {
     let heap = rt.alloc();

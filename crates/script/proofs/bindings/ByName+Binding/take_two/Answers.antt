@@ -1,6 +1,6 @@
 use Rattle.std.proofs.Common.{rules}
 use Rattle.script.proofs.Names.{stands_still}
-use Rattle.script.proofs.bindings.Bindings.take_two.Goals as goal
+use Rattle.script.proofs.bindings.ByName+Binding.take_two.Goals as goal
 
 pub remove-requires : goal.remove-requires
 remove-requires c =
