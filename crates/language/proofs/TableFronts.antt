@@ -1,5 +1,5 @@
 -- Tables are read from the front.
-use Rattle.std.proofs.Common.{◌≡◌, ℕ, zero, suc, ◌+◌, ◌<◌, ◌≤◌, Bool, true, false, cond, eqb, ◌⊎◌, List, [], ◌∷◌, length, get_or, take, drop, Some, None, Option, sym, refl, ap, ◌∙◌, subst, ap₂, inl, inr, zero-le, not-suc-le-zero, arith}
+use Rattle.std.proofs.Common.{◌≡◌, ℕ, zero, suc, ◌+◌, ◌<◌, ◌≤◌, Bool, true, false, cond, eqb, ◌⊎◌, List, [], ◌∷◌, length, get_or, take, drop, Some, None, Option, sym, refl, ap, ◌∙◌, subst, ap₂, inl, inr, zero-le, not-suc-le-zero, arith, lit≤}
 use Rattle.std.proofs.lemmas.List.{length-take-le, length-drop, get_or-take, get_or-drop, same_lists}
 use Rattle.std.proofs.lemmas.Option.{slice_get_past, slice_get-get_or}
 use Rattle.std.proofs.lemmas.Bool.{cases_lt, le-leb, lt-leb, cond-true, cond-false, le-ltb, lt-ltb, eq-eqb, false≢true}
@@ -546,9 +546,18 @@ left_by bs place (more h t r p n) =
           ∙ cond-true _ _ _ (eq-eqb place (length (take place bs)) (sym sized));
     }
 
+in_six : (rule : Rule) → (1 ≤ rule_number rule) × (rule_number rule ≤ 6)
+in_six TooManyBytes = (lit≤ tt, lit≤ tt)
+in_six BytesMissing = (lit≤ tt, lit≤ tt)
+in_six WrongVariable = (lit≤ tt, lit≤ tt)
+in_six WrongAtom = (lit≤ tt, lit≤ tt)
+in_six WrongExpression = (lit≤ tt, lit≤ tt)
+in_six BytesLeftOver = (lit≤ tt, lit≤ tt)
+
 pub faults_are_the_first : FaultsAreTheFirst
 faults_are_the_first =
     record {
+      numbers = λ bs rule place e. in_six rule;
       too_long = opened_beyond;
       too_long_only = λ bs place e. long_by bs place (cause bs TooManyBytes place e);
       missing = λ bs place e. missing_by bs place (cause bs BytesMissing place e);

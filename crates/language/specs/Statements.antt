@@ -4,7 +4,7 @@ use Rattle.model.specs.Meanings.{Valuation, AreBytes}
 use Rattle.model.specs.declared.Fault.{Fault}
 use Rattle.language.specs.Expressions.{Agree, Number, Truth, equal, less, number_bytes, truth_bytes, number_value, truth_value, Seen, number_sees, truth_sees, number_right, truth_right, good, bad, read_number, read_truth, whole_number, whole_truth, expression_fault, swapped, seen_swapped, number_renamed, truth_renamed, operator, bytes_renamed}
 use Rattle.language.specs.Fronts.{Same, FromFront}
-use Rattle.language.specs.Rules.{judges_items}
+use Rattle.language.specs.Rules.{judges_items, rule_number}
 use Rattle.language.specs.declared.rules.Rule.{Rule}
 use Rattle.language.specs.declared.rules.Rule.TheVariants.{TooManyBytes, BytesMissing, WrongAtom, BytesLeftOver}
 use Rattle.language.specs.Tables.{TableSyntax, table_bytes, TableRight, opens_as, breaks, opening_of, table_fault}
@@ -124,6 +124,7 @@ pub record LeftOver (bs : List ℕ) (place : ℕ) : Type 0 where
   pub whole : opening_of (take place bs) ≡ opens_as table
 
 pub record FaultsAreTheFirst : Type 0 where
+  pub numbers : (bs : List ℕ) (rule : Rule) (place : ℕ) → opening_of bs ≡ breaks rule place → (1 ≤ rule_number rule) × (rule_number rule ≤ 6)
   pub too_long : (bs : List ℕ) → 4096 < length bs → opening_of bs ≡ breaks TooManyBytes 0
   pub too_long_only : (bs : List ℕ) (place : ℕ) → opening_of bs ≡ breaks TooManyBytes place → 4096 < length bs
   pub missing : (bs : List ℕ) (place : ℕ) → opening_of bs ≡ breaks BytesMissing place →

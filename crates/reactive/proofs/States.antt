@@ -130,6 +130,7 @@ module _ (m : Meaning) where
         states = states;
         initial = initial;
         successors = successors;
+        follows = follows;
         trajectories = trajectories;
         told = λ v h. (
           as_row v,

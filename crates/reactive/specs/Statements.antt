@@ -47,6 +47,9 @@ pub record StatesAgree (m : Meaning) : Type 0 where
   pub initial : (t : List ℕ) → Row m t → InitialState m t ↔ IsInitial (module_of m) (value t)
   pub successors : (s t : List ℕ) → Row m s → Row m t →
       ((is_state m.outline s ≡ true) × Successor m s t) ↔ Follows (module_of m) (value s) (value t)
+  -- the state before may be told by any values, by a row or not
+  pub follows : (s t : List ℕ) → IsState (module_of m) (value s) → Row m t →
+      Successor m s t ↔ Follows (module_of m) (value s) (value t)
   pub trajectories : (run : List (List ℕ)) → ((t : List ℕ) → Member t run → Row m t) →
       Trajectory m run ↔ IsTrajectory (module_of m) (map value run)
   pub told : (v : Valuation) → IsState (module_of m) v →

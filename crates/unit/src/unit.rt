@@ -40,7 +40,10 @@ impl<D: Drawing> Unit<D> {
 
     /// With what an unfit unit refuses its calls; None where it is fit.
     pub fn refusal(&self) -> Option<Refusal>
-        ensures { result ≡ verdict_of (model_of (D.Drawing.meaning self.now.drawing) self.now.state) }
+        ensures refusal { result
+            ≡ verdict_of (model_of (D.Drawing.meaning self.now.drawing) self.now.state) }
+        ensures zero { ZeroWhenFit result }
+        ensures lawful { HasLawfulLife (model_of (D.Drawing.meaning self.now.drawing) self.now.state) }
     {
         self.state.verdict()
     }
