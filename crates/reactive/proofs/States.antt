@@ -86,6 +86,15 @@ module _ (m : Meaning) where
     λ p. record { yielded = leads_yield Update s t ((states t row).1 p.state) p.led },
   )
 
+  -- after any values
+  leads : (s t : List ℕ) → Row m t →
+      Successor m s t ↔ (IsState (module_of m) (value t) × ((i : (module_of m).Index) → ((module_of m).atom i).update (value s) (value t) (value t)))
+  unfolding AllLead
+  leads s t row = (
+    λ u. ((states t row).0 (yields_parts m Update s t u.yielded).0, yields_leads Update s t u.yielded),
+    λ p. record { yielded = leads_yield Update s t ((states t row).1 p.0) p.1 },
+  )
+
   successors : (s t : List ℕ) → Row m s → Row m t → ((is_state m.outline s ≡ true) × Successor m s t) ↔ Follows (module_of m) (value s) (value t)
   successors s t before row = (
     λ u. (follows s t ((states s before).0 u.0) row).0 u.1,
@@ -131,6 +140,7 @@ module _ (m : Meaning) where
         initial = initial;
         successors = successors;
         follows = follows;
+        leads = leads;
         trajectories = trajectories;
         told = λ v h. (
           as_row v,

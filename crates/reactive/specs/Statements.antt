@@ -50,6 +50,10 @@ pub record StatesAgree (m : Meaning) : Type 0 where
   -- the state before may be told by any values, by a row or not
   pub follows : (s t : List ℕ) → IsState (module_of m) (value s) → Row m t →
       Successor m s t ↔ Follows (module_of m) (value s) (value t)
+  -- after any values, those of a state or not, come the states to which the update action of each atom leads
+  pub leads : (s t : List ℕ) → Row m t →
+      Successor m s t ↔
+      (IsState (module_of m) (value t) × ((i : (module_of m).Index) → ((module_of m).atom i).update (value s) (value t) (value t)))
   pub trajectories : (run : List (List ℕ)) → ((t : List ℕ) → Member t run → Row m t) →
       Trajectory m run ↔ IsTrajectory (module_of m) (map value run)
   pub told : (v : Valuation) → IsState (module_of m) v →

@@ -1,5 +1,5 @@
 -- What assignments give, part by part.
-use Rattle.std.proofs.Common.{◌≡◌, ℕ, ◌<◌, true, false, cond, Some, None, is_some, slice_index_or, slice_set, List, [], ◌∷◌, Ok, Err, Result, refl, length, ◌==◌, nat_lt, rules, tests, get_or, map, sym, ◌+◌, ◌∙◌, arith}
+use Rattle.std.proofs.Common.{◌≡◌, ℕ, ◌<◌, true, false, cond, Some, None, is_some, slice_index_or, slice_set, List, [], Ok, Err, Result, refl, length, ◌==◌, nat_lt, rules, tests, get_or, map, sym, ◌∙◌, arith}
 use Rattle.std.specs.List.{range_with_len, before_first, after_first, position_or_len}
 use Rattle.std.proofs.lemmas.List.{ext_get_or}
 use Rattle.std.proofs.lemmas.List.FromFn.{length-map-range_with_len, get_or-map-range_with_len}

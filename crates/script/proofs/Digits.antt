@@ -1,5 +1,5 @@
 -- What `parse` reads, as the number that is to be read.
-use Rattle.std.proofs.Common.{◌≡◌, ℕ, Bool, true, false, cond, List, length, Ok, Err, Result, refl, ap, rules, tests, IfErr}
+use Rattle.std.proofs.Common.{◌≡◌, ℕ, Bool, true, false, cond, List, Ok, Err, Result, refl, ap, rules, tests, IfErr}
 use Rattle.std.specs.Result.{OkIff}
 use Rattle.std.specs.Str.Parse.{digits_value}
 use Rattle.script.specs.Numbers.{Numeral, is_numeral, number_in}

@@ -6,10 +6,9 @@ use Rattle.std.specs.Str.{bytes_eq as same_text}
 use Rattle.script.specs.declared.mistake.Mistake.{Mistake}
 use Rattle.script.specs.declared.mistake.Mistake.TheVariants.{NoMemory}
 use Rattle.script.specs.Answers.{TellsBinding}
-use Rattle.script.specs.Bindings.{Bindings, binding_of, Binds, SameBindings, Unbinds, BindsDrawing, UnbindsAll}
+use Rattle.script.specs.Bindings.{Binding, Bindings, binding_of, Binds, SameBindings, Unbinds, BindsDrawing, UnbindsAll}
 use Rattle.script.specs.Sessions.{Makes}
 use Rattle.script.specs.declared.answer.Answer.{Answer}
-use Rattle.script.specs.declared.binding.Binding.{Binding}
 use Rattle.any_drawing.specs.Piles.{Pile}
 
 none_of : {X : Type 0} (a : Bool) (x : X) → cond (a || false) x x ≡ x

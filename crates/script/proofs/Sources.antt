@@ -7,7 +7,7 @@ use Rattle.script.specs.declared.source.ByteSource.TheVariants.{Given, File}
 use Rattle.model.specs.Meanings.{Meaning}
 use Rattle.script.specs.Sessions.{DrawnFrom}
 use Rattle.script.specs.Bindings.{meaning_of}
-use Rattle.script.specs.declared.binding.Binding.TheVariants.{Drawing}
+use Rattle.script.specs.declared.binding.Bound.TheVariants.{Drawing}
 use Rattle.any_drawing.specs.Piles.{Pile}
 
 pub by_source : (describes : List ℕ → Meaning → Type 0) (source : ByteSource) (bytes : Vec ℕ Global) (d : Pile) →

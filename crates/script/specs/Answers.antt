@@ -3,11 +3,10 @@ use Rattle.std.specs.Prelude.{◌≡◌, ℕ, List, string_bytes, box_value}
 use Rattle.model.specs.Meanings.{OutlineFacts, Meaning}
 use Rattle.model.specs.declared.Question.{Question}
 use Rattle.reports.specs.Told.{TellsOutline, TellsChoice}
-use Rattle.script.specs.Bindings.{meaning_of, unit_of}
+use Rattle.script.specs.Bindings.{Binding, meaning_of, unit_of}
 use Rattle.script.specs.declared.answer.Answer.{Answer}
 use Rattle.script.specs.declared.answer.Answer.TheVariants as answers
-use Rattle.script.specs.declared.binding.Binding.{Binding}
-use Rattle.script.specs.declared.binding.Binding.TheVariants.{Drawing, SealedUnit}
+use Rattle.script.specs.declared.binding.Bound.TheVariants.{Drawing, SealedUnit}
 use Rattle.units.specs.Units.{UnitModel, verdict_of}
 
 -- the name of a drawing that was made, and its fault, with number, layer and place

@@ -5,12 +5,16 @@ use Rattle.std.specs.Str.{bytes_eq as same_text}
 use Rattle.any_drawing.specs.Meaning.{any_meaning}
 use Rattle.any_drawing.specs.Piles.{Pile}
 use Rattle.model.specs.Meanings.{Meaning}
-use Rattle.script.specs.declared.binding.Binding.{Binding}
-use Rattle.script.specs.declared.binding.Binding.TheVariants.{Drawing, SealedUnit}
+use Rattle.script.specs.declared.binding.Bound.{Bound}
+use Rattle.script.specs.declared.binding.Bound.TheVariants.{Drawing, SealedUnit}
 use Rattle.script.specs.declared.binding.BoundUnit.{BoundUnit}
 use Rattle.script.specs.declared.bindings.ByName.{ByName}
 use Rattle.unit.specs.States.{model_of}
 use Rattle.units.specs.Units.{UnitModel}
+
+-- a drawing or a unit
+abbrev pub Binding : Type 0
+Binding = Bound Pile BoundUnit
 
 -- each name stands for one drawing or unit, or for nothing
 abbrev pub Bindings : Type 0

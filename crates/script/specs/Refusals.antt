@@ -3,10 +3,9 @@ use Rattle.std.specs.Prelude.{◌≡◌, ℕ, cond, ◌⊎◌, List, length, Som
 use Rattle.std.specs.Option.{option_or}
 use Rattle.std.specs.Result.{result_err}
 use Rattle.std.specs.Str.{bytes_eq as same_text}
-use Rattle.script.specs.Bindings.{Bindings, binding_of}
+use Rattle.script.specs.Bindings.{Binding, Bindings, binding_of}
 use Rattle.script.specs.StateBytes.{state_of}
-use Rattle.script.specs.declared.binding.Binding.{Binding}
-use Rattle.script.specs.declared.binding.Binding.TheVariants.{Drawing, SealedUnit}
+use Rattle.script.specs.declared.binding.Bound.TheVariants.{Drawing, SealedUnit}
 use Rattle.script.specs.declared.command.Command.{Command}
 use Rattle.script.specs.declared.command.Command.TheVariants.{New, Table, Gates, Join, Rename, Hide, Seal, Verdict, Outline, Ask}
 use Rattle.script.specs.declared.mistake.Mistake.{Mistake}

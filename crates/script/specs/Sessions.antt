@@ -7,14 +7,13 @@ use Rattle.composition.specs.Meanings.{renamed, hidden, joined}
 use Rattle.model.specs.Meanings.{Meaning}
 use Rattle.model.specs.declared.Question.{Question}
 use Rattle.script.specs.Answers.{TellsVerdict, TellsBinding, TellsOutlineOf, TellsChoiceOf}
-use Rattle.script.specs.Bindings.{Bindings, meaning_of, unit_of, meaning_of_binding, binding_of, IsEmpty, Binds, SameBindings, BindsDrawing, IsUnit, Rebinds, UnbindsAll}
+use Rattle.script.specs.Bindings.{Binding, Bindings, meaning_of, unit_of, meaning_of_binding, binding_of, IsEmpty, SameBindings, BindsDrawing, IsUnit, Rebinds, UnbindsAll}
 use Rattle.script.specs.Commands.{Asks, refusal_of_line}
 use Rattle.script.specs.Refusals.{HoldsState, IsNoState, MayBeState, Refuses}
 use Rattle.script.specs.Words.{Words}
 use Rattle.script.specs.declared.answer.Answer.{Answer}
 use Rattle.script.specs.declared.answer.Answer.TheVariants.{Forgotten}
-use Rattle.script.specs.declared.binding.Binding.{Binding}
-use Rattle.script.specs.declared.binding.Binding.TheVariants.{Drawing, SealedUnit}
+use Rattle.script.specs.declared.binding.Bound.TheVariants.{Drawing, SealedUnit}
 use Rattle.script.specs.declared.command.Command.{Command}
 use Rattle.script.specs.declared.command.Command.TheVariants.{New, Table, Gates, Join, Rename, Hide, Seal, Verdict, Outline, Ask}
 use Rattle.script.specs.declared.mistake.Mistake.{Mistake}

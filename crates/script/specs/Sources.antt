@@ -1,5 +1,5 @@
 -- Byte strings, as a line gives them.
-use Rattle.std.specs.Prelude.{◌≡◌, ℕ, Bool, cond, ◌&&◌, not, List, [], ◌∷◌, Ok, Err, vec_items, string_bytes, codes, Result, Vec, ◌==◌, slice_index}
+use Rattle.std.specs.Prelude.{◌≡◌, ℕ, Bool, cond, ◌&&◌, not, List, [], ◌∷◌, Ok, vec_items, string_bytes, codes, Result, Vec, ◌==◌, slice_index}
 use Rattle.std.specs.declared.alloc.Global.{Global}
 use Rattle.std.specs.Result.{result_map_both}
 use Rattle.std.specs.Str.{bytes_eq as same_text}

@@ -31,12 +31,16 @@ impl BoundUnit {
     }
 }
 
-/// A drawing or a unit. A unit is boxed, since it is much larger than a drawing.
+/// A drawing or a unit. A unit is boxed, since it is much larger than a drawing. Both are parameters of the type: that it may go to
+/// another thread, and be shared with one, is then proved once.
 #[derive(Drop)]
-pub enum Binding {
-    Drawing(AnyDrawing),
-    SealedUnit(Box<BoundUnit>),
+pub enum Bound<D, U> {
+    Drawing(D),
+    SealedUnit(Box<U>),
 }
+
+/// What a name stands for.
+pub type Binding = Bound<AnyDrawing, BoundUnit>;
 
 // What the drawing is, in a word or two.
 fn kind_of(drawing: &AnyDrawing) -> &'static str {
@@ -60,7 +64,7 @@ fn drawing_report(heap: Global, name: &str, drawing: &AnyDrawing) -> Result<Answ
     }))
 }
 
-impl Binding {
+impl Bound<AnyDrawing, BoundUnit> {
     ghost use Rattle.script.specs.Answers.{TellsBinding, TellsOutlineOf, TellsChoiceOf};
     ghost use Rattle.script.specs.Bindings.{meaning_of_binding};
     ghost use Rattle.std.specs.Prelude.{◌≡◌};

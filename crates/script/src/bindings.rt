@@ -18,8 +18,8 @@ pub struct ByName<T> {
     ghost lawful: { IsOrdered string_cmp map } by { Prim.hlevel props },
 }
 
-/// Each name stands for one drawing or unit, or for nothing. What it is is a parameter of the type: that names may go to another thread
-/// is then proved once, for things of any kind, and a check finds it of a session.
+/// Each name stands for one drawing or unit, or for nothing. What it is is a parameter of the type: that names may go to another thread,
+/// and be shared with one, is then proved once, for things of any kind, and a check finds it of a session.
 pub type Bindings = ByName<Binding>;
 
 impl ByName<Binding> {

@@ -1,16 +1,25 @@
 //! What right lines about gate lists are answered.
 use crate::running::{answer, check_answers, check_refused, new_session};
-use script::Mistake;
+use script::{Command, Mistake, Session};
 use std::test::Fail;
 
 const NAND: &str = "gates d 01000102FF0002FF03FF";
 
-// What it is called with may go to another thread.
-fn may_be_sent<T: Send>(_value: &T) {}
+// What it is called with may go to another thread, and be shared with one.
+fn may_be_shared<T: Send + Sync>(_value: &T) {}
+
+// A session among other values: a check has to find all three.
+fn all_may_be_shared(session: &Session, mistake: &Mistake, command: &Command) {
+    may_be_shared(session);
+    may_be_shared(mistake);
+    may_be_shared(command);
+}
 
 #[test]
-fn a_session_may_be_sent(rt: HostRuntime) -> Result<(), Fail> {
-    may_be_sent(&new_session(rt.alloc()));
+fn a_session_may_be_shared(rt: HostRuntime) -> Result<(), Fail> {
+    let session = new_session(rt.alloc());
+    may_be_shared(&session);
+    all_may_be_shared(&session, &Mistake::NotText, &Command::New);
     Ok(())
 }
 

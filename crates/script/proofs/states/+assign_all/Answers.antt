@@ -1,4 +1,4 @@
-use Rattle.std.proofs.Common.{◌≡◌, sym, ◌∙◌, rules}
+use Rattle.std.proofs.Common.{rules}
 use Rattle.script.proofs.Assign.{assign_one, assign_first}
 use Rattle.script.proofs.states.+assign_all.Goals as goal
 

@@ -1,4 +1,4 @@
-use Rattle.std.proofs.Common.{◌≡◌, sym, ◌∙◌, ap, rules}
+use Rattle.std.proofs.Common.{◌≡◌, sym, ◌∙◌, rules}
 use Rattle.script.specs.States.{assign, give}
 use Rattle.script.proofs.Assign.{assigned, given_twice, given_once}
 use Rattle.script.proofs.states.assign.Goals as goal

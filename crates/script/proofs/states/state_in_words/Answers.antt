@@ -1,4 +1,4 @@
-use Rattle.std.proofs.Common.{◌≡◌, ℕ, ◌<◌, get_or, sym, ap, ◌∙◌, Ok, None, rules, tests}
+use Rattle.std.proofs.Common.{◌≡◌, ℕ, ◌<◌, get_or, None, rules, tests}
 use Rattle.script.specs.States.{value_given}
 use Rattle.script.proofs.Assign.{values_are}
 use Rattle.script.proofs.states.state_in_words.Goals as goal

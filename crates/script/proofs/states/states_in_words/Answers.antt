@@ -1,4 +1,4 @@
-use Rattle.std.proofs.Common.{◌≡◌, ◌<◌, sym, ◌∙◌, ap, inl, rules, Ok, Err, length, ◌==◌}
+use Rattle.std.proofs.Common.{◌≡◌, ◌<◌, sym, ◌∙◌, ap, rules, Ok, Err, length, ◌==◌}
 use Rattle.std.specs.List.{before_first, after_first, position_or_len}
 use Rattle.script.specs.States.{state_in_words, states_in_words}
 use Rattle.script.proofs.Spelt.{first_state, first_wrong, last_state, last_wrong}

@@ -2,7 +2,7 @@ use Rattle.std.proofs.Common.{[], refl, string_bytes}
 use Rattle.any_drawing.specs.Leaves.{MeansGates}
 use Rattle.script.specs.Refusals.{Refuses}
 use Rattle.script.specs.Sessions.{DrawnFrom}
-use Rattle.script.specs.declared.binding.Binding.TheVariants.{Drawing}
+use Rattle.script.specs.declared.binding.Bound.TheVariants.{Drawing}
 use Rattle.script.specs.declared.command.Command.TheVariants.{Gates}
 use Rattle.script.proofs.Names.{made_after}
 use Rattle.script.proofs.Sources.{by_source}

@@ -1,7 +1,7 @@
 use Rattle.std.proofs.Common.{[], ◌∷◌, string_bytes}
 use Rattle.script.specs.Refusals.{Refuses}
 use Rattle.script.specs.Sessions.{Joins}
-use Rattle.script.specs.declared.binding.Binding.TheVariants.{Drawing}
+use Rattle.script.specs.declared.binding.Bound.TheVariants.{Drawing}
 use Rattle.script.specs.declared.command.Command.TheVariants.{Join}
 use Rattle.script.proofs.Names.{made_after}
 use Rattle.script.proofs.session.Session.join.Goals as goal

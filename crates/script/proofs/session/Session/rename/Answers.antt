@@ -1,7 +1,7 @@
 use Rattle.std.proofs.Common.{[], ◌∷◌, string_bytes}
 use Rattle.script.specs.Refusals.{Refuses}
 use Rattle.script.specs.Sessions.{Changes}
-use Rattle.script.specs.declared.binding.Binding.TheVariants.{Drawing}
+use Rattle.script.specs.declared.binding.Bound.TheVariants.{Drawing}
 use Rattle.script.specs.declared.command.Command.TheVariants.{Rename}
 use Rattle.script.proofs.Names.{gone_one, made_after}
 use Rattle.script.proofs.session.Session.rename.Goals as goal

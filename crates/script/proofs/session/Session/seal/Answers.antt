@@ -2,7 +2,7 @@ use Rattle.std.proofs.Common.{[], ◌∷◌, string_bytes, ap, ◌∙◌, rules}
 use Rattle.script.specs.Bindings.{unit_of}
 use Rattle.script.specs.Refusals.{Refuses}
 use Rattle.script.specs.Sessions.{Seals}
-use Rattle.script.specs.declared.binding.Binding.TheVariants.{SealedUnit}
+use Rattle.script.specs.declared.binding.Bound.TheVariants.{SealedUnit}
 use Rattle.script.specs.declared.command.Command.TheVariants.{Seal}
 use Rattle.script.proofs.Names.{gone_one, made_after}
 use Rattle.script.proofs.session.Session.seal.Goals as goal
